@@ -1,0 +1,117 @@
+-- What a test that comes out true, or false, says: on Bools, on ranges, on lists.
+-- Assumes nothing.
+use mathlib.Core.Path.{_≡_, refl, sym, ap, _∙_}
+use mathlib.Core.Bool.{Bool, true, false, not, _&&_, _||_, true≢false, false≢true}
+use mathlib.Core.List.{List, [], _∷_, _++_}
+use mathlib.Core.Logic.{_⊎_, inl, inr, ⊎-elim}
+use Prim.Native.Nat.{ℕ, zero, suc, _≤_, _<_}
+use native.Mathlib.Omega.{arith}
+use lib.Dec.{eqb, leb, ltb}
+use lib.ListN.{length}
+use borrow.Author.Tests.{le-leb, leb-true, leb-false, eqb-true, eq-eqb}
+use Rattle.lists.specs.Tests.{pick, within, allOf, anyOf, firstOf, elem, same}
+
+-- ---- conjunction and disjunction
+
+pub both : (a b : Bool) → a && b ≡ true → (a ≡ true) × (b ≡ true)
+both true b e = (refl, e)
+both false b e = absurd (false≢true e)
+
+pub neither : (a b : Bool) → a || b ≡ false → (a ≡ false) × (b ≡ false)
+neither true b e = absurd (true≢false e)
+neither false b e = (refl, e)
+
+pub or-left : (a b : Bool) → a ≡ true → a || b ≡ true
+or-left a b e = rw e
+
+pub or-right : (a b : Bool) → b ≡ true → a || b ≡ true
+or-right true b e = refl
+or-right false b e = e
+
+pub clash : {A : Type 0} {b : Bool} → b ≡ true → b ≡ false → A
+clash p q = absurd (true≢false (sym p ∙ q))
+
+pub lt-or-le : (a b : ℕ) → (a < b) ⊎ (b ≤ a)
+lt-or-le a zero = inr (omega arith)
+lt-or-le zero (suc b) = inl (omega arith)
+lt-or-le (suc a) (suc b) = ⊎-elim (λ h. inl (omega arith)) (λ h. inr (omega arith)) (lt-or-le a b)
+
+-- ---- a range
+
+pub inside : (a b c : ℕ) → a ≤ c → c ≤ b → within a b c ≡ true
+unfolding within
+inside a b c p q = simp (le-leb a c p, le-leb c b q)
+
+pub outside : (a b c : ℕ) → (a ≤ c → c ≤ b → ⊥) → within a b c ≡ false
+unfolding within
+outside a b c f = go (leb a c) refl (leb c b) refl
+  where
+    go : (x : Bool) → leb a c ≡ x → (y : Bool) → leb c b ≡ y → leb a c && leb c b ≡ false
+    go true p true q = absurd (f (leb-true a c p) (leb-true c b q))
+    go true p false q = simp (p, q)
+    go false p y q = simp p
+
+pub in-range : (a b c : ℕ) → within a b c ≡ true → (a ≤ c) × (c ≤ b)
+unfolding within
+in-range a b c e = let p = both (leb a c) (leb c b) e in (leb-true a c (p .0), leb-true c b (p .1))
+
+-- ---- lists
+
+module _ {A : Type 0} (f : A → Bool) where
+  pub all-append : (xs ys : List A) → allOf f (xs ++ ys) ≡ allOf f xs && allOf f ys
+  unfolding allOf
+  all-append [] ys = refl
+  all-append (x ∷ xs) ys = go (f x) (all-append xs ys)
+    where
+      go : (b : Bool) → allOf f (xs ++ ys) ≡ allOf f xs && allOf f ys → b && allOf f (xs ++ ys) ≡ b && allOf f xs && allOf f ys
+      go true e = e
+      go false e = refl
+
+  pub any-append : (xs ys : List A) → anyOf f (xs ++ ys) ≡ anyOf f xs || anyOf f ys
+  unfolding anyOf
+  any-append [] ys = refl
+  any-append (x ∷ xs) ys = go (f x) (any-append xs ys)
+    where
+      go : (b : Bool) → anyOf f (xs ++ ys) ≡ anyOf f xs || anyOf f ys → b || anyOf f (xs ++ ys) ≡ b || anyOf f xs || anyOf f ys
+      go true e = refl
+      go false e = e
+
+-- where f holds of all, so does what f implies
+pub all-weaker : {A : Type 0} (f g : A → Bool) (imp : (c : A) → f c ≡ true → g c ≡ true) (l : List A) → allOf f l ≡ true → allOf g l ≡ true
+unfolding allOf
+all-weaker f g imp [] e = refl
+all-weaker f g imp (x ∷ xs) e =
+    let p = both (f x) (allOf f xs) e in
+    rw (imp x (p .0)) (all-weaker f g imp xs (p .1))
+
+-- where f holds of all and never beside g, g holds of none
+pub all-none : {A : Type 0} (f g : A → Bool) (imp : (c : A) → f c ≡ true → g c ≡ false) (l : List A) → allOf f l ≡ true → anyOf g l ≡ false
+unfolding allOf anyOf
+all-none f g imp [] e = refl
+all-none f g imp (x ∷ xs) e =
+    let p = both (f x) (allOf f xs) e in
+    rw (imp x (p .0)) (all-none f g imp xs (p .1))
+
+-- what holds of every entry of a table holds of each number that is in it
+pub in-table : (f : ℕ → Bool) (c : ℕ) (l : List ℕ) → allOf f l ≡ true → elem c l ≡ true → f c ≡ true
+unfolding allOf anyOf elem
+in-table f c [] w e = absurd (false≢true e)
+in-table f c (x ∷ xs) w e = go (eqb c x) refl e (in-table f c xs (both (f x) (allOf f xs) w .1))
+  where
+    go : (b : Bool) → eqb c x ≡ b → b || anyOf (eqb c) xs ≡ true → (anyOf (eqb c) xs ≡ true → f c ≡ true) → f c ≡ true
+    go true p h on = rw (eqb-true c x p) (both (f x) (allOf f xs) w .0)
+    go false p h on = on h
+
+-- ---- the same list
+
+pub same-refl : (xs : List ℕ) → same xs xs ≡ true
+unfolding same
+same-refl [] = refl
+same-refl (x ∷ xs) = rw (eq-eqb x x refl) (same-refl xs)
+
+pub same-is : (xs ys : List ℕ) → same xs ys ≡ true → xs ≡ ys
+unfolding same
+same-is [] [] e = refl
+same-is [] (y ∷ ys) e = absurd (false≢true e)
+same-is (x ∷ xs) [] e = absurd (false≢true e)
+same-is (x ∷ xs) (y ∷ ys) e = let p = both (eqb x y) (same xs ys) e in rw (eqb-true x y (p .0), same-is xs ys (p .1))

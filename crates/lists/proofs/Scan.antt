@@ -1,0 +1,101 @@
+-- A scan from the left, for any test f: what each turn and the end of the loop show.
+-- Assumes nothing.
+use mathlib.Core.Path.{_≡_, refl, sym, ap, _∙_}
+use mathlib.Core.Bool.{Bool, true, false, _&&_, _||_}
+use mathlib.Core.List.{List, [], _∷_}
+use Prim.Native.Nat.{ℕ, suc, _+_, _≤_, _<_}
+use native.Mathlib.Numerals.{add-one}
+use native.Mathlib.Omega.{arith}
+use lib.Dec.{eqb}
+use lib.ListN.{length, drop, getD, drop-of-length-le}
+use lib.Seq.{drop-cons}
+use borrow.Author.Tests.{eq-eqb, ne-eqb}
+use Rattle.lists.specs.Tests.{pick, allOf, anyOf, firstOf, elem, same}
+
+module _ (f : ℕ → Bool) (t : List ℕ) (i : ℕ) where
+  module _ (h : i < length t) where
+    any-peel : anyOf f (drop i t) ≡ f (getD t i 0) || anyOf f (drop (i + 1) t)
+    unfolding anyOf
+    any-peel = rw (add-one, drop-cons t i 0)
+
+    pub any-here : {b : Bool} → anyOf f t ≡ anyOf f (drop i t) → b ≡ f (getD t i 0) → b ≡ true → true ≡ anyOf f t
+    any-here e p q = sym (e ∙ any-peel ∙ simp (sym p ∙ q))
+
+    pub any-on : {b : Bool} → anyOf f t ≡ anyOf f (drop i t) → b ≡ f (getD t i 0) → b ≡ false → anyOf f t ≡ anyOf f (drop (i + 1) t)
+    any-on e p q = e ∙ any-peel ∙ simp (sym p ∙ q)
+
+    all-peel : allOf f (drop i t) ≡ f (getD t i 0) && allOf f (drop (i + 1) t)
+    unfolding allOf
+    all-peel = rw (add-one, drop-cons t i 0)
+
+    pub all-here : {b : Bool} → allOf f t ≡ allOf f (drop i t) → b ≡ f (getD t i 0) → b ≡ false → false ≡ allOf f t
+    all-here e p q = sym (e ∙ all-peel ∙ simp (sym p ∙ q))
+
+    pub all-on : {b : Bool} → allOf f t ≡ allOf f (drop i t) → b ≡ f (getD t i 0) → b ≡ true → allOf f t ≡ allOf f (drop (i + 1) t)
+    all-on e p q = e ∙ all-peel ∙ simp (sym p ∙ q)
+
+    first-peel : firstOf f (drop i t) ≡ pick (f (getD t i 0)) 0 (suc (firstOf f (drop (i + 1) t)))
+    unfolding firstOf
+    first-peel = rw (add-one, drop-cons t i 0)
+
+    pub first-here : {b : Bool} (n : ℕ) → n ≡ i + firstOf f (drop i t) → b ≡ f (getD t i 0) → b ≡ true → i ≡ n
+    first-here n e p q = omega (arith, simp (sym p ∙ q) at first-peel)
+
+    pub first-on : {b : Bool} (n : ℕ) → n ≡ i + firstOf f (drop i t) → b ≡ f (getD t i 0) → b ≡ false → n ≡ i + 1 + firstOf f (drop (i + 1) t)
+    first-on n e p q = omega (arith, simp (sym p ∙ q) at first-peel)
+
+  pub any-end : length t ≤ i → anyOf f t ≡ anyOf f (drop i t) → false ≡ anyOf f t
+  unfolding anyOf
+  any-end h e = sym (e ∙ rw (drop-of-length-le t h))
+
+  pub all-end : length t ≤ i → allOf f t ≡ allOf f (drop i t) → true ≡ allOf f t
+  unfolding allOf
+  all-end h e = sym (e ∙ rw (drop-of-length-le t h))
+
+  pub first-end : (n : ℕ) → length t ≤ i → n ≡ i + firstOf f (drop i t) → i ≡ n
+  unfolding firstOf
+  first-end n h e = omega (arith, ap (firstOf f) (drop-of-length-le t h))
+
+-- ---- one number looked for, where the code compares an entry with it
+
+module _ (c : ℕ) (t : List ℕ) (i : ℕ) (h : i < length t) (e : elem c t ≡ elem c (drop i t)) where
+  pub elem-here : getD t i 0 ≡ c → true ≡ elem c t
+  unfolding elem
+  elem-here p = any-here (eqb c) t i h e refl (eq-eqb c (getD t i 0) (sym p))
+
+  pub elem-on : (getD t i 0 ≡ c → ⊥) → elem c t ≡ elem c (drop (i + 1) t)
+  unfolding elem
+  elem-on p = any-on (eqb c) t i h e refl (ne-eqb c (getD t i 0) (λ q. p (sym q)))
+
+pub elem-end : (c : ℕ) (t : List ℕ) (i : ℕ) → length t ≤ i → elem c t ≡ elem c (drop i t) → false ≡ elem c t
+unfolding elem
+elem-end c t i h e = any-end (eqb c) t i h e
+
+-- ---- two lists, entry by entry
+
+pub unlike : (a b : List ℕ) → (length a ≡ length b → ⊥) → false ≡ same a b
+unfolding same
+unlike [] [] h = absurd (h refl)
+unlike [] (y ∷ ys) h = refl
+unlike (x ∷ xs) [] h = refl
+unlike (x ∷ xs) (y ∷ ys) h = go (eqb x y) (unlike xs ys (λ e. h (omega arith)))
+  where
+    go : (t : Bool) → false ≡ same xs ys → false ≡ t && same xs ys
+    go true e = e
+    go false e = refl
+
+module _ (a b : List ℕ) (i : ℕ) (e : same a b ≡ same (drop i a) (drop i b)) where
+  module _ (h : i < length a) (g : i < length b) where
+    same-peel : same (drop i a) (drop i b) ≡ eqb (getD a i 0) (getD b i 0) && same (drop (i + 1) a) (drop (i + 1) b)
+    unfolding same
+    same-peel = rw (add-one, drop-cons a i 0 h, drop-cons b i 0 g)
+
+    pub same-no : (getD a i 0 ≡ getD b i 0 → ⊥) → false ≡ same a b
+    same-no p = sym (e ∙ same-peel ∙ simp (ne-eqb _ _ p))
+
+    pub same-on : getD a i 0 ≡ getD b i 0 → same a b ≡ same (drop (i + 1) a) (drop (i + 1) b)
+    same-on p = e ∙ same-peel ∙ simp (eq-eqb _ _ p)
+
+  pub same-end : length a ≤ i → length b ≤ i → true ≡ same a b
+  unfolding same
+  same-end h g = sym (e ∙ rw (drop-of-length-le a h, drop-of-length-le b g))

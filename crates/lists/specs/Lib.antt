@@ -1,0 +1,3 @@
+pub mod Tests
+pub mod Front
+pub mod Halving
