@@ -2,3 +2,4 @@ pub mod Laws
 pub mod Scan
 pub mod Rising
 pub mod Fronts
+pub mod Tables

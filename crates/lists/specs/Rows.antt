@@ -1,0 +1,32 @@
+-- The numbers that a call may answer: a table of rows in the order of document 01, the first that applies is given.
+use mathlib.Core.Bool.{Bool}
+use mathlib.Core.List.{List, [], _∷_}
+use Prim.Native.Nat.{ℕ}
+use lib.Dec.{eqb}
+use Rattle.lists.specs.Tests.{pick}
+
+-- a refusal: its number, when it applies, and its place
+pub record Row : Type 0 where
+  pub number : ℕ
+  pub applies : Bool
+  pub place : ℕ
+
+abbrev pub row : ℕ → Bool → ℕ → Row
+row n b p = record { number = n; applies = b; place = p }
+
+pub record Answer : Type 0 where
+  pub number : ℕ
+  pub place : ℕ
+
+-- 0 is accepted
+abbrev pub accepted : Answer
+accepted = record { number = 0; place = 0 }
+
+-- the first row that applies, or accepted
+unfoldable pub first : List Row → Answer
+first [] = accepted
+first (r ∷ rs) = pick (r .applies) (record { number = r .number; place = r .place }) (first rs)
+
+-- what stands at the buffer's start then: xs where accepted, nothing where refused
+unfoldable pub given : Answer → List ℕ → List ℕ
+given a xs = pick (eqb (a .number) 0) xs []
