@@ -1,0 +1,5 @@
+pub mod Ranges
+pub mod Classes
+pub mod Lent
+pub mod Pairs
+pub mod Count

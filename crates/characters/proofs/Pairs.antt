@@ -1,0 +1,161 @@
+-- What a base and a mark become, from the tables: each entry of a table passes a computed test, so each number in it does.
+-- Assumes nothing.
+use mathlib.Core.Path.{_≡_, refl, sym, ap, _∙_}
+use mathlib.Core.Bool.{Bool, true, false, not, _&&_, _||_}
+use mathlib.Core.List.{List}
+use mathlib.Core.Logic.{_⊎_, inl, inr, ⊎-elim}
+use Prim.Native.Nat.{ℕ, _+_, _-_, _≤_}
+use native.Mathlib.Omega.{arith}
+use lib.Dec.{eqb, leb, ltb}
+use borrow.Author.Tests.{eqb-true, leb-true, lt-ltb, le-ltb, not-true}
+use Rattle.lists.specs.Tests.{pick, within, allOf, anyOf, elem}
+use Rattle.lists.proofs.Laws.{both, neither, clash, outside, in-table, in-range, lt-or-le}
+use Rattle.characters.specs.Replace.{ranges, rangeIn, isHalf, replaceIn, replace}
+use Rattle.characters.specs.Compose.{voiced, repeats, halfVoiced, eitherKana, composed}
+
+-- a number that fails a test which every entry passes is not in the table
+absent : (f : ℕ → Bool) (c : ℕ) (l : List ℕ) → allOf f l ≡ true → f c ≡ false → elem c l ≡ false
+absent f c l w n = go (elem c l) refl
+  where
+    go : (b : Bool) → elem c l ≡ b → elem c l ≡ false
+    go true e = clash (in-table f c l w e) n
+    go false e = e
+
+-- ---- one table serves both kana
+
+-- every entry is of the katakana row
+abbrev pub katakanaRow : List ℕ → Bool
+katakanaRow table = allOf (within 0x30A1 0x3100) table
+
+pub or-false : (a : Bool) → a || false ≡ a
+or-false true = refl
+or-false false = refl
+
+module _ (table : List ℕ) (w : katakanaRow table ≡ true) (b : ℕ) where
+  outside-row : (c : ℕ) → (0x30A1 ≤ c → c ≤ 0x3100 → ⊥) → elem c table ≡ false
+  outside-row c f = absent (within 0x30A1 0x3100) c table w (outside 0x30A1 0x3100 c f)
+
+  either-row : elem (pick (ltb b 0x30A1) (b + 0x60) b) table ≡ eitherKana table b
+  unfolding eitherKana
+  either-row =
+      ⊎-elim (λ h. rw (lt-ltb b 0x30A1 h, outside-row b (λ i j. omega arith)))
+      (λ h. rw (le-ltb b 0x30A1 h, outside-row (b + 0x60) (λ i j. omega arith)) (sym (or-false (elem b table)))) (lt-or-le b 0x30A1)
+
+  -- what the code finds, k being b moved to the katakana row
+  module _ {k : ℕ} {r : Bool} (e : k ≡ pick (ltb b 0x30A1) (b + 0x60) b) (h : r ≡ elem k table) where
+    pub found : {t : Bool} → r ≡ t → eitherKana table b ≡ t
+    found g = sym (h ∙ ap (λ (x : ℕ). elem x table) e ∙ either-row) ∙ g
+
+    pub found-low : r ≡ true → b ≤ 0x3100
+    found-low g =
+        let i = in-range 0x30A1 0x3100 k (in-table (within 0x30A1 0x3100) k table w (sym h ∙ g)) in
+        ⊎-elim (λ l. omega arith) (λ l. omega (arith, rw (le-ltb b 0x30A1 l) at e)) (lt-or-le b 0x30A1)
+
+pub repeats-low : (b : ℕ) → elem b repeats ≡ true → b ≤ 0x30FD
+unfolding repeats allOf
+repeats-low b e = leb-true b 0x30FD (in-table (λ (k : ℕ). leb k 0x30FD) b repeats refl e)
+
+-- ---- what is composed
+
+-- a test that holds of every entry of the table, moved on by n, and of the same less 60 hex
+abbrev pub moved : (ℕ → Bool) → ℕ → List ℕ → Bool
+moved f n table = allOf (λ (k : ℕ). f (k + n) && f (k - 0x60 + n)) table
+
+module _ (f : ℕ → Bool) where
+  in-either : (n : ℕ) (table : List ℕ) (b : ℕ) → moved f n table ≡ true → eitherKana table b ≡ true → f (b + n) ≡ true
+  unfolding eitherKana
+  in-either n table b w e = go (elem b table) refl e
+    where
+      entry : (k : ℕ) → elem k table ≡ true → (f (k + n) ≡ true) × (f (k - 0x60 + n) ≡ true)
+      entry k h = both (f (k + n)) (f (k - 0x60 + n)) (in-table (λ (k : ℕ). f (k + n) && f (k - 0x60 + n)) k table w h)
+
+      go : (t : Bool) → elem b table ≡ t → t || elem (b + 0x60) table ≡ true → f (b + n) ≡ true
+      go true p h = entry b p .0
+      go false p h =
+          let back : b + 0x60 - 0x60 ≡ b = omega arith in
+          rw back at (entry (b + 0x60) h .1)
+
+  -- a test that every pair's one character passes, by computation, and 0
+  pub of-composed : (b m : ℕ) → f 0 ≡ true → f 0x30F4 ≡ true → moved f 1 voiced ≡ true → allOf (λ (k : ℕ). f (k + 1)) repeats ≡ true
+      → moved f 2 halfVoiced ≡ true → f (composed b m) ≡ true
+  unfolding composed
+  of-composed b m z u v r h = mark (eqb m 0x309B) (eqb m 0x309C)
+    where
+      voice : (x : Bool) → eitherKana voiced b ≡ x → (y : Bool) → elem b repeats ≡ y → (t : Bool) → f (pick (x || y) (b + 1) (pick t 0x30F4 0)) ≡ true
+      voice true p y q t = in-either 1 voiced b v p
+      voice false p true q t = in-table (λ (k : ℕ). f (k + 1)) b repeats r q
+      voice false p false q true = u
+      voice false p false q false = z
+
+      half : (x : Bool) → eitherKana halfVoiced b ≡ x → f (pick x (b + 2) 0) ≡ true
+      half true p = in-either 2 halfVoiced b h p
+      half false p = z
+
+      mark : (s t : Bool) → f (pick s (pick (eitherKana voiced b || elem b repeats) (b + 1) (pick (eqb b 0x30A6) 0x30F4 0)) (pick t (pick (eitherKana halfVoiced b) (b + 2) 0) 0)) ≡ true
+      mark true t = voice (eitherKana voiced b) refl (elem b repeats) refl (eqb b 0x30A6)
+      mark false true = half (eitherKana halfVoiced b) refl
+      mark false false = z
+
+-- a base of some pair
+abbrev base : ℕ → Bool
+base v = (eitherKana voiced v || elem v repeats) || (eqb v 0x30A6 || eitherKana halfVoiced v)
+
+abbrev calm : ℕ → Bool
+calm v = (eqb (replace v) v && not (base v)) && (not (eqb v 0x309B) && not (eqb v 0x309C))
+
+unmarked : (b m : ℕ) → eqb m 0x309B ≡ false → eqb m 0x309C ≡ false → composed b m ≡ 0
+unfolding composed
+unmarked b m p q = simp (p, q)
+
+baseless : (b m : ℕ) → base b ≡ false → composed b m ≡ 0
+unfolding composed
+baseless b m n =
+    let l = neither (eitherKana voiced b || elem b repeats) (eqb b 0x30A6 || eitherKana halfVoiced b) n in
+    let h = neither (eqb b 0x30A6) (eitherKana halfVoiced b) (l .1) in
+    simp (l .0, h .0, h .1) (same (eqb m 0x309B) (eqb m 0x309C))
+  where
+    same : (s t : Bool) → _≡_ {A = ℕ} (pick s 0 (pick t 0 0)) 0
+    same true t = refl
+    same false true = refl
+    same false false = refl
+
+module _ (b m : ℕ) where
+  is-calm : calm (composed b m) ≡ true
+  unfolding voiced repeats halfVoiced eitherKana elem anyOf allOf replace replaceIn isHalf ranges rangeIn within
+  is-calm = of-composed calm b m refl refl refl refl refl
+
+  parts : ((eqb (replace (composed b m)) (composed b m) && not (base (composed b m))) ≡ true) × ((not (eqb (composed b m) 0x309B) && not (eqb (composed b m) 0x309C)) ≡ true)
+  parts =
+      both (eqb (replace (composed b m)) (composed b m) && not (base (composed b m)))
+      (not (eqb (composed b m) 0x309B) && not (eqb (composed b m) 0x309C)) is-calm
+
+  kept-and-no-base : (eqb (replace (composed b m)) (composed b m) ≡ true) × (not (base (composed b m)) ≡ true)
+  kept-and-no-base = both (eqb (replace (composed b m)) (composed b m)) (not (base (composed b m))) (parts .0)
+
+  -- it is not replaced
+  pub unreplaced : replace (composed b m) ≡ composed b m
+  unreplaced = eqb-true (replace (composed b m)) (composed b m) (kept-and-no-base .0)
+
+  -- it is no mark
+  pub no-mark : (w : ℕ) → composed w (composed b m) ≡ 0
+  no-mark w =
+      let n = both (not (eqb (composed b m) 0x309B)) (not (eqb (composed b m) 0x309C)) (parts .1) in
+      unmarked w (composed b m) (not-true (eqb (composed b m) 0x309B) (n .0)) (not-true (eqb (composed b m) 0x309C) (n .1))
+
+  -- it is never a base again
+  pub no-base : (x : ℕ) → composed (composed b m) x ≡ 0
+  no-base x = baseless (composed b m) x (not-true (base (composed b m)) (kept-and-no-base .1))
+
+-- ---- the marks
+
+pub mark-is : (b m : ℕ) → (composed b m ≡ 0 → ⊥) → (m ≡ 0x309B) ⊎ (m ≡ 0x309C)
+mark-is b m n = go (eqb m 0x309B) refl (eqb m 0x309C) refl
+  where
+    go : (s : Bool) → eqb m 0x309B ≡ s → (t : Bool) → eqb m 0x309C ≡ t → (m ≡ 0x309B) ⊎ (m ≡ 0x309C)
+    go true p t q = inl (eqb-true m 0x309B p)
+    go false p true q = inr (eqb-true m 0x309C q)
+    go false p false q = absurd (n (unmarked b m p q))
+
+pub marks-stay : (replace 0x309B ≡ 0x309B) × (replace 0x309C ≡ 0x309C)
+unfolding replace replaceIn isHalf ranges rangeIn within
+marks-stay = (refl, refl)

@@ -1,0 +1,21 @@
+-- `japanese_at` meets its contract: `KANJI` is the list of the specification, and of that list halving is membership.
+-- Assumes nothing.
+use mathlib.Core.Path.{_∙_}
+use Rattle.characters.specs.Kanji.{kanji}
+use Rattle.characters.proofs.Lent.{lent}
+use borrow.Author.Needs.{needs}
+use Rattle.characters.proofs.japanese_at.Statement.{statement}
+use Rattle.characters.proofs.japanese_at.Tie as tie
+
+slice-aggregate-is-japanese : tie.Need-slice-aggregate-is-japanese
+slice-aggregate-is-japanese c = search needs
+
+is-japanese-requires : tie.Need-is-japanese-requires
+is-japanese-requires c κs = search needs
+
+returns : tie.Need-returns
+unfolding kanji
+returns c = c .is-japanese .ensures ∙ lent _
+
+pub japanese-at-spec : {M : Type 1} → statement M
+japanese-at-spec = tie.close (tie.spec slice-aggregate-is-japanese is-japanese-requires returns)

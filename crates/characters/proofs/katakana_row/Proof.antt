@@ -1,0 +1,18 @@
+-- `katakana_row` meets its contract.
+-- Assumes nothing.
+use borrow.Author.Tests.{lt-ltb, le-ltb}
+use borrow.Author.Needs.{needs}
+use Rattle.characters.proofs.katakana_row.Statement.{statement}
+use Rattle.characters.proofs.katakana_row.Tie as tie
+
+add-result : tie.Need-add-result
+add-result c = search needs
+
+returns : tie.Need-returns
+returns c = simp (lt-ltb _ _ (c .if1 .taken))
+
+returns-2 : tie.Need-returns-2
+returns-2 c = simp (le-ltb _ _ (c .if1 .left))
+
+pub katakana-row-spec : {M : Type 1} → statement M
+katakana-row-spec = tie.close (tie.spec add-result returns returns-2)

@@ -1,0 +1,35 @@
+-- Closed examples of document 01, 'Normal form', by computation.
+use mathlib.Core.Path.{_≡_, refl}
+use mathlib.Core.List.{[], _∷_, map}
+use Prim.Native.Nat.{ℕ}
+use Rattle.lists.specs.Tests.{within, anyOf, elem}
+use Rattle.characters.specs.Replace.{ranges, rangeIn, halfKana, isHalf, replaceIn, replace}
+use Rattle.characters.specs.Compose.{voiced, repeats, halfVoiced, eitherKana, composed}
+
+-- A, Z; the wide A and z; the wide 7; the wide hyphen; the four separators; the first and the last half-width kana
+pub replacing : map replace (0x41 ∷ 0x5A ∷ 0xFF21 ∷ 0xFF5A ∷ 0xFF17 ∷ 0xFF0D ∷ 0x2E ∷ 0xFF0E ∷ 0x3002 ∷ 0xFF61 ∷ 0xFF65 ∷ 0xFF9F ∷ [])
+    ≡ 0x61 ∷ 0x7A ∷ 0x61 ∷ 0x7A ∷ 0x37 ∷ 0x2D ∷ 0x2E ∷ 0x2E ∷ 0x2E ∷ 0x2E ∷ 0x30FB ∷ 0x309C ∷ []
+unfolding ranges rangeIn halfKana isHalf replaceIn replace within
+replacing = refl
+
+-- what stands beside a range stays
+pub staying : map replace (0x40 ∷ 0x5B ∷ 0x60 ∷ 0x7B ∷ 0xFF64 ∷ 0xFFA0 ∷ 0x3042 ∷ 0xFFFFFFFF ∷ [])
+    ≡ 0x40 ∷ 0x5B ∷ 0x60 ∷ 0x7B ∷ 0xFF64 ∷ 0xFFA0 ∷ 0x3042 ∷ 0xFFFFFFFF ∷ []
+unfolding ranges rangeIn halfKana isHalf replaceIn replace within
+staying = refl
+
+-- 30AB, its hiragana, both repeat signs and 30A6 with mark 309B
+pub voicing : map (λ (b : ℕ). composed b 0x309B) (0x30AB ∷ 0x304B ∷ 0x309D ∷ 0x30FD ∷ 0x30A6 ∷ [])
+    ≡ 0x30AC ∷ 0x304C ∷ 0x309E ∷ 0x30FE ∷ 0x30F4 ∷ []
+unfolding voiced repeats halfVoiced eitherKana composed elem anyOf
+voicing = refl
+
+-- 30CF and its hiragana with mark 309C
+pub half-voicing : map (λ (b : ℕ). composed b 0x309C) (0x30CF ∷ 0x306F ∷ []) ≡ 0x30D1 ∷ 0x3071 ∷ []
+unfolding voiced repeats halfVoiced eitherKana composed elem anyOf
+half-voicing = refl
+
+-- 3046 is not composed, nor is what is composed already, nor 30AB with the other mark
+pub apart : composed 0x3046 0x309B ∷ composed 0x30D0 0x309C ∷ composed 0x30AC 0x309B ∷ composed 0x30AB 0x309C ∷ [] ≡ 0 ∷ 0 ∷ 0 ∷ 0 ∷ []
+unfolding voiced repeats halfVoiced eitherKana composed elem anyOf
+apart = refl

@@ -1,0 +1,5 @@
+pub mod Kanji
+pub mod Characters
+pub mod Replace
+pub mod Compose
+pub mod Examples

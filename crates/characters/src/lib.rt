@@ -1,0 +1,274 @@
+// Which code point is what: Japanese or not, what replaces it, and what a base and a mark become.
+// Each call takes any 32-bit number and any lent table, and says all of its result. Its meaning is defined in specs/:
+// Characters, Replace, Compose. `KANJI` is public so that a program names it once and lends it.
+mod kanji;
+
+pub use kanji::KANJI;
+ghost use mathlib.Core.Path.{_≡_};
+ghost use Prim.Native.Nat.{_+_, _<_};
+ghost use lib.Dec.{ltb};
+ghost use lib.ListN.{getD};
+ghost use Rattle.lists.specs.Tests.{pick, within, elem};
+ghost use Rattle.characters.specs.Characters.{alnum, asciiSet, signs, japanese, japaneseWith};
+ghost use Rattle.characters.specs.Replace.{halfKana, classOf, replace};
+ghost use Rattle.characters.specs.Compose.{composed};
+
+fn between(a: u32, b: u32, c: u32) -> bool
+    ensures { λ r. ⌜ r ≡ within a b c ⌝ }
+{
+    if c < a {
+        return false;
+    }
+    c <= b
+}
+
+// A letter, in lower case as the normal form has it, or a digit?
+pub fn is_alnum(c: u32) -> bool
+    ensures { λ r. ⌜ r ≡ alnum c ⌝ }
+{
+    if between(0x30, 0x39, c) {
+        return true;
+    }
+    between(0x61, 0x7A, c)
+}
+
+// Of the ASCII set?
+pub fn is_ascii(c: u32) -> bool
+    ensures { λ r. ⌜ r ≡ asciiSet c ⌝ }
+{
+    if is_alnum(c) {
+        return true;
+    }
+    c == 0x2D
+}
+
+const SIGNS: [u32; 10] = [
+    0x30FB,
+    0x30FD,
+    0x30FE,
+    0x309D,
+    0x309E,
+    0x4EDD,
+    0x3005,
+    0x3006,
+    0x3007,
+    0x30FC,
+];
+
+fn is_sign(c: u32) -> bool
+    ensures { λ r. ⌜ r ≡ elem c signs ⌝ }
+{
+    lists::holds(&SIGNS, c)
+}
+
+// A Japanese character, by a lent table of kanji? The signs come last: they are the rarest.
+pub fn is_japanese(kanji: &[u32], c: u32) -> bool
+    ensures { λ r. ⌜ r ≡ japaneseWith (now (kanji .entry)) c ⌝ }
+{
+    if between(0x3041, 0x3093, c) {
+        return true;
+    }
+    if between(0x30A1, 0x30F6, c) {
+        return true;
+    }
+    if lists::finds(kanji, c) {
+        return true;
+    }
+    is_sign(c)
+}
+
+// The same by the table of this crate, for a single code point; who asks of many lends the table.
+pub fn japanese_at(c: u32) -> bool
+    ensures { λ r. ⌜ r ≡ japanese c ⌝ }
+{
+    is_japanese(&KANJI, c)
+}
+
+// The replacement class of a code point.
+pub enum Replacement {
+    Letter,
+    Digit,
+    Hyphen,
+    Separator,
+    HalfKana,
+    Mark,
+    Other,
+}
+
+pub fn class_of(c: u32) -> Replacement
+    ensures { λ r. ⌜ r ≡ classOf c ⌝ }
+{
+    match c {
+        0x2D..=0x2D => Replacement::Hyphen,
+        0x2E..=0x2E => Replacement::Separator,
+        0x30..=0x39 => Replacement::Digit,
+        0x41..=0x5A => Replacement::Letter,
+        0x61..=0x7A => Replacement::Letter,
+        0x3002..=0x3002 => Replacement::Separator,
+        0x309B..=0x309C => Replacement::Mark,
+        0xFF0D..=0xFF0D => Replacement::Hyphen,
+        0xFF0E..=0xFF0E => Replacement::Separator,
+        0xFF10..=0xFF19 => Replacement::Digit,
+        0xFF21..=0xFF3A => Replacement::Letter,
+        0xFF41..=0xFF5A => Replacement::Letter,
+        0xFF61..=0xFF61 => Replacement::Separator,
+        0xFF65..=0xFF9F => Replacement::HalfKana,
+        _ => Replacement::Other,
+    }
+}
+
+const HALF: [u32; 59] = [
+    0x30FB,
+    0x30F2,
+    0x30A1,
+    0x30A3,
+    0x30A5,
+    0x30A7,
+    0x30A9,
+    0x30E3,
+    0x30E5,
+    0x30E7,
+    0x30C3,
+    0x30FC,
+    0x30A2,
+    0x30A4,
+    0x30A6,
+    0x30A8,
+    0x30AA,
+    0x30AB,
+    0x30AD,
+    0x30AF,
+    0x30B1,
+    0x30B3,
+    0x30B5,
+    0x30B7,
+    0x30B9,
+    0x30BB,
+    0x30BD,
+    0x30BF,
+    0x30C1,
+    0x30C4,
+    0x30C6,
+    0x30C8,
+    0x30CA,
+    0x30CB,
+    0x30CC,
+    0x30CD,
+    0x30CE,
+    0x30CF,
+    0x30D2,
+    0x30D5,
+    0x30D8,
+    0x30DB,
+    0x30DE,
+    0x30DF,
+    0x30E0,
+    0x30E1,
+    0x30E2,
+    0x30E4,
+    0x30E6,
+    0x30E8,
+    0x30E9,
+    0x30EA,
+    0x30EB,
+    0x30EC,
+    0x30ED,
+    0x30EF,
+    0x30F3,
+    0x309B,
+    0x309C,
+];
+
+fn half_at(i: usize) -> u32
+    requires { ⌜ i < 59 ⌝ }
+    ensures { λ r. ⌜ r ≡ getD halfKana i 0 ⌝ }
+{
+    HALF[i]
+}
+
+// What replaces a code point. The ranges of letters start at 1 modulo 32, those of digits at 0 modulo 16.
+pub fn replaced(c: u32) -> u32
+    ensures { λ r. ⌜ r ≡ replace c ⌝ }
+{
+    let class = class_of(c);
+    match class {
+        Replacement::Letter => 0x60 + c % 32,
+        Replacement::Digit => 0x30 + c % 16,
+        Replacement::Hyphen => 0x2D,
+        Replacement::Separator => 0x2E,
+        Replacement::HalfKana => half_at((c - 0xFF65) as usize),
+        Replacement::Mark => c,
+        Replacement::Other => c,
+    }
+}
+
+const VOICED: [u32; 20] = [
+    0x30AB,
+    0x30AD,
+    0x30AF,
+    0x30B1,
+    0x30B3,
+    0x30B5,
+    0x30B7,
+    0x30B9,
+    0x30BB,
+    0x30BD,
+    0x30BF,
+    0x30C1,
+    0x30C4,
+    0x30C6,
+    0x30C8,
+    0x30CF,
+    0x30D2,
+    0x30D5,
+    0x30D8,
+    0x30DB,
+];
+
+const REPEATS: [u32; 2] = [0x309D, 0x30FD];
+
+const HALF_VOICED: [u32; 5] = [0x30CF, 0x30D2, 0x30D5, 0x30D8, 0x30DB];
+
+// What stands before the katakana is moved to their row, so that one table serves both kana.
+fn katakana_row(b: u32) -> u32
+    ensures { λ r. ⌜ r ≡ pick (ltb b 0x30A1) (b + 0x60) b ⌝ }
+{
+    if b < 0x30A1 { b + 0x60 } else { b }
+}
+
+fn voice(b: u32) -> u32
+    ensures { λ r. ⌜ r ≡ composed b 0x309B ⌝ }
+{
+    if lists::holds(&VOICED, katakana_row(b)) {
+        return b + 1;
+    }
+    if lists::holds(&REPEATS, b) {
+        return b + 1;
+    }
+    if b == 0x30A6 {
+        return 0x30F4;
+    }
+    0
+}
+
+fn half_voice(b: u32) -> u32
+    ensures { λ r. ⌜ r ≡ composed b 0x309C ⌝ }
+{
+    if lists::holds(&HALF_VOICED, katakana_row(b)) {
+        return b + 2;
+    }
+    0
+}
+
+// The one character that a base and a mark become, or 0 where the two stay apart. The mark is tested first: few code points are one.
+pub fn joined(base: u32, mark: u32) -> u32
+    ensures { λ r. ⌜ r ≡ composed base mark ⌝ }
+{
+    if mark == 0x309B {
+        return voice(base);
+    }
+    if mark == 0x309C {
+        return half_voice(base);
+    }
+    0
+}
