@@ -3,3 +3,4 @@ pub mod Scan
 pub mod Rising
 pub mod Fronts
 pub mod Tables
+pub mod Unique
