@@ -1,0 +1,5 @@
+pub mod Pending
+pub mod Plain
+pub mod Laws
+pub mod Answers
+pub mod Unique

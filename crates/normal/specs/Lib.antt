@@ -1,0 +1,3 @@
+pub mod Normal
+pub mod Calls
+pub mod Examples

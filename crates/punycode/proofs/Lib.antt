@@ -1,0 +1,10 @@
+pub mod Reading
+pub mod Insertion
+pub mod RoundTrip
+pub mod Theorems
+pub mod Unique
+pub mod Rungs
+pub mod Clipped
+pub mod Passes
+pub mod Machine
+pub mod Answers

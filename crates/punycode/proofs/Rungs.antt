@@ -1,0 +1,162 @@
+-- The tests on one number, rung by rung as the code's ladders of comparisons have them: between two bounds a test has one answer.
+-- Assumes nothing.
+use mathlib.Core.Path.{_≡_, refl, sym, ap, _∙_}
+use mathlib.Core.Bool.{Bool, true, false, _&&_, _||_, or-true, or-false}
+use mathlib.Core.List.{List, [], _∷_}
+use Prim.Native.Nat.{ℕ, _+_, _-_, _≤_, _<_}
+use native.Mathlib.Omega.{arith}
+use lib.Dec.{ltb, leb}
+use lib.ListN.{length}
+use borrow.Author.Tests.{lt-ltb, le-ltb, le-leb, lt-leb, ne-eqb, eq-eqb}
+use Rattle.lists.specs.Tests.{within, allOf, anyOf}
+use Rattle.lists.proofs.Laws.{inside, outside}
+use Rattle.punycode.specs.Punycode.{nearer, delimiter, alnum, ldh, wide, allowed, encodable}
+use Rattle.punycode.specs.Calls.{lower}
+use Rattle.punycode.specs.Decoding.{value, mark}
+use Rattle.punycode.proofs.Reading.{split}
+
+module _ (c : ℕ) where
+  -- ---- letters and digits
+
+  pub alnum-low : c < 48 → false ≡ alnum c
+  unfolding alnum
+  alnum-low h = rw (outside 97 122 c (λ p q. omega arith), outside 48 57 c (λ p q. omega arith))
+
+  pub alnum-digit : 48 ≤ c → c < 58 → true ≡ alnum c
+  unfolding alnum
+  alnum-digit h g = rw (outside 97 122 c (λ p q. omega arith), inside 48 57 c h (omega arith))
+
+  pub alnum-mid : 58 ≤ c → c < 97 → false ≡ alnum c
+  unfolding alnum
+  alnum-mid h g = rw (outside 97 122 c (λ p q. omega arith), outside 48 57 c (λ p q. omega arith))
+
+  pub alnum-high : 97 ≤ c → ltb c 123 ≡ alnum c
+  unfolding alnum
+  alnum-high h = split c 123
+      (λ g. rw (lt-ltb c 123 g, inside 97 122 c h (omega arith)))
+      (λ g. rw (le-ltb c 123 g, outside 97 122 c (λ p q. omega arith), outside 48 57 c (λ p q. omega arith)))
+
+  pub ldh-hyphen : c ≡ 45 → true ≡ ldh c
+  unfolding ldh
+  ldh-hyphen e = rw (eq-eqb c 45 e, or-true)
+
+  pub ldh-other : (r : Bool) → (c ≡ 45 → ⊥) → r ≡ alnum c → r ≡ ldh c
+  unfolding ldh
+  ldh-other r e h = rw (ne-eqb c 45 e, or-false) h
+
+  -- ---- scalar values
+
+  pub wide-basic : c < 0x80 → false ≡ wide c
+  unfolding wide
+  wide-basic h = rw (outside 0x80 0x10FFFF c (λ p q. omega arith))
+
+  pub wide-low : 0x80 ≤ c → c < 0xD800 → true ≡ wide c
+  unfolding wide
+  wide-low h g = rw (inside 0x80 0x10FFFF c h (omega arith), outside 0xD800 0xDFFF c (λ p q. omega arith))
+
+  pub wide-surrogate : 0xD800 ≤ c → c < 0xE000 → false ≡ wide c
+  unfolding wide
+  wide-surrogate h g = rw (inside 0x80 0x10FFFF c (omega arith) (omega arith), inside 0xD800 0xDFFF c h (omega arith))
+
+  pub wide-high : 0xE000 ≤ c → ltb c 0x110000 ≡ wide c
+  unfolding wide
+  wide-high h = split c 0x110000
+      (λ g. rw (lt-ltb c 0x110000 g, inside 0x80 0x10FFFF c (omega arith) (omega arith), outside 0xD800 0xDFFF c (λ p q. omega arith)))
+      (λ g. rw (le-ltb c 0x110000 g, outside 0x80 0x10FFFF c (λ p q. omega arith)))
+
+  pub allowed-wide : (r : Bool) → r ≡ wide c → r ≡ true → true ≡ allowed c
+  unfolding allowed
+  allowed-wide r p h = rw (sym p ∙ h, or-true)
+
+  pub allowed-ldh : (r s : Bool) → r ≡ wide c → r ≡ false → s ≡ ldh c → s ≡ allowed c
+  unfolding allowed
+  allowed-ldh r s p h q = rw (sym p ∙ h, or-false) q
+
+  -- ---- lower case
+
+  pub lower-low : c < 65 → c ≡ lower c
+  unfolding lower
+  lower-low h = rw (outside 65 90 c (λ p q. omega arith))
+
+  pub lower-upper : 65 ≤ c → c < 91 → c + 32 ≡ lower c
+  unfolding lower
+  lower-upper h g = rw (inside 65 90 c h (omega arith))
+
+  pub lower-high : 91 ≤ c → c ≡ lower c
+  unfolding lower
+  lower-high h = rw (outside 65 90 c (λ p q. omega arith))
+
+  -- ---- the value of a digit
+
+  pub value-low : c < 48 → 36 ≡ value c
+  unfolding value
+  value-low h = rw (outside 97 122 c (λ p q. omega arith), outside 48 57 c (λ p q. omega arith))
+
+  pub value-digit : 48 ≤ c → c < 58 → c - 48 + 26 ≡ value c
+  unfolding value
+  value-digit h g = rw (outside 97 122 c (λ p q. omega arith), inside 48 57 c h (omega arith))
+
+  pub value-mid : 58 ≤ c → c < 97 → 36 ≡ value c
+  unfolding value
+  value-mid h g = rw (outside 97 122 c (λ p q. omega arith), outside 48 57 c (λ p q. omega arith))
+
+  pub value-letter : 97 ≤ c → c < 123 → c - 97 ≡ value c
+  unfolding value
+  value-letter h g = rw (inside 97 122 c h (omega arith))
+
+  pub value-high : 123 ≤ c → 36 ≡ value c
+  unfolding value
+  value-high h = rw (outside 97 122 c (λ p q. omega arith), outside 48 57 c (λ p q. omega arith))
+
+  -- ---- the last delimiter so far
+
+  pub mark-yes : (j r : ℕ) → c ≡ 45 → j + 1 ≡ mark c j r
+  unfolding mark
+  mark-yes j r e = rw (eq-eqb c 45 e)
+
+  pub mark-no : (j r : ℕ) → (c ≡ 45 → ⊥) → r ≡ mark c j r
+  unfolding mark
+  mark-no j r e = rw (ne-eqb c 45 e)
+
+-- ---- the least so far
+
+module _ (n c m : ℕ) where
+  pub nearer-yes : n ≤ c → c < m → c ≡ nearer n c m
+  unfolding nearer
+  nearer-yes h k = rw (le-leb n c h, lt-ltb c m k)
+
+  pub nearer-far : n ≤ c → m ≤ c → m ≡ nearer n c m
+  unfolding nearer
+  nearer-far h k = rw (le-leb n c h, le-ltb c m k)
+
+  pub nearer-low : c < n → m ≡ nearer n c m
+  unfolding nearer
+  nearer-low h = rw (lt-leb n c h)
+
+pub delimiter-no : (b : ℕ) → b ≡ 0 → delimiter b ≡ []
+unfolding delimiter
+delimiter-no b e = rw (eq-eqb b 0 e)
+
+pub delimiter-yes : (b : ℕ) → (b ≡ 0 → ⊥) → delimiter b ≡ 45 ∷ []
+unfolding delimiter
+delimiter-yes b e = rw (ne-eqb b 0 e)
+
+-- ---- a whole label
+
+module _ (l : List ℕ) where
+  pub encodable-none : length l < 1 → false ≡ encodable l
+  unfolding encodable
+  encodable-none h = rw (outside 1 63 (length l) (λ p q. omega arith))
+
+  pub encodable-many : 63 < length l → false ≡ encodable l
+  unfolding encodable
+  encodable-many h = rw (outside 1 63 (length l) (λ p q. omega arith))
+
+  module _ (h : 1 ≤ length l) (g : length l ≤ 63) (r : Bool) (each : r ≡ allOf allowed l) where
+    pub encodable-bad : r ≡ false → false ≡ encodable l
+    unfolding encodable
+    encodable-bad e = rw (inside 1 63 (length l) h g, sym each ∙ e)
+
+    pub encodable-rest : (s : Bool) → r ≡ true → s ≡ anyOf (leb 0x80) l → s ≡ encodable l
+    unfolding encodable
+    encodable-rest s e p = rw (inside 1 63 (length l) h g, sym each ∙ e) p

@@ -1,0 +1,83 @@
+use mathlib.Core.Path.{_≡_, refl, sym, ap, _∙_}
+use native.Mathlib.Omega.{arith}
+use lib.ListN.{length, take}
+use lib.Seq.{length-take-le}
+use borrow.Author.Tests.{not-true, not-false}
+use Rattle.punycode.proofs.Answers.{from-start, encodes-short, encodes-unfit, encodes-long, encodes-done}
+use borrow.Author.Needs.{needs}
+use Rattle.punycode.proofs.encode.Statement.{statement}
+use Rattle.punycode.proofs.encode.Tie as tie
+
+refused-requires : tie.Need-refused-requires
+refused-requires c κs = search needs
+
+returns : tie.Need-returns
+returns c = encodes-short (c .before .before .before .before .args .label .now) _ _ (c .before .if1 .taken) (c .refused .ensures)
+
+encodable-requires : tie.Need-encodable-requires
+encodable-requires c κs = search needs
+
+refused-requires-2 : tie.Need-refused-requires-2
+refused-requires-2 c κs = search needs
+
+returns-2 : tie.Need-returns-2
+returns-2 c = encodes-unfit (c .before .before .before .before .before .before .args .label .now) _ _ (c .before .before .before .if1 .left) (sym (c .before .before .encodable .ensures) ∙ not-true _ (c .before .if2 .taken)) (c .refused2 .ensures)
+
+slice-aggregate-ace : tie.Need-slice-aggregate-ace
+slice-aggregate-ace c = search needs
+
+ace-requires : tie.Need-ace-requires
+ace-requires c κs = (omega arith, sym (c .before .before .encodable .ensures) ∙ not-false _ (c .before .if2 .left))
+
+refused-requires-3 : tie.Need-refused-requires-3
+refused-requires-3 c κs = search needs
+
+returns-3 : tie.Need-returns-3
+returns-3 c =
+    let t = c .before .before .before .ace in
+    let size = length-take-le (t .result) (t .last .1 .0) (omega (arith, t .kept .1 .0)) in
+    encodes-long (c .before .before .before .before .before .before .before .before .before .before .args .label .now) _ _ (c .before .before .before .before .before .before .before .if1 .left) (sym (c .before .before .before .before .before .before .encodable .ensures) ∙ not-false _ (c .before .before .before .before .before .if2 .left))
+    (take (t .result) (t .last .1 .0)) (t .ensures .1) (omega arith) (c .refused3 .ensures)
+
+sub-copy : tie.Need-sub-copy
+sub-copy c = search needs
+
+part-copy-start : tie.Need-part-copy-start
+part-copy-start c = search needs
+
+part-copy-end : tie.Need-part-copy-end
+part-copy-end c = search needs
+
+copy-requires : tie.Need-copy-requires
+copy-requires c κs = search needs
+
+same-length : tie.Need-same-length
+same-length c = search needs
+
+returns-4 : tie.Need-returns-4
+returns-4 c =
+    let t = c .before .before .before .before .before .before .before .before .ace in
+    let text = take (t .result) (t .last .1 .0) in
+    let size : length text ≡ t .result = length-take-le (t .result) (t .last .1 .0) (omega (arith, t .kept .1 .0)) in
+    encodes-done (c .before .before .before .before .before .before .before .before .before .before .before .before .before .before .before .args .label .now) _ _ (c .before .before .before .before .before .before .before .before .before .before .before .before .if1 .left) (sym (c .before .before .before .before .before .before .before .before .before .before .before .encodable .ensures) ∙ not-false _ (c .before .before .before .before .before .before .before .before .before .before .if2 .left))
+    text (t .ensures .1) _ (omega arith) (rw size refl) (rw from-start at (c .before .before .copy .ensures .1))
+
+pub encode-spec : {M : Type 1} → statement M
+encode-spec =
+    tie.close
+    (tie.spec
+    refused-requires
+    returns
+    encodable-requires
+    refused-requires-2
+    returns-2
+    slice-aggregate-ace
+    ace-requires
+    refused-requires-3
+    returns-3
+    sub-copy
+    part-copy-start
+    part-copy-end
+    copy-requires
+    same-length
+    returns-4)

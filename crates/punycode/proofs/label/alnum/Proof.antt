@@ -1,0 +1,19 @@
+use Rattle.punycode.proofs.Rungs.{alnum-low, alnum-digit, alnum-mid, alnum-high}
+use borrow.Author.Needs.{needs}
+use Rattle.punycode.proofs.label.alnum.Statement.{statement}
+use Rattle.punycode.proofs.label.alnum.Tie as tie
+
+returns : tie.Need-returns
+returns c = search (alnum-low, needs)
+
+returns-2 : tie.Need-returns-2
+returns-2 c = search (alnum-digit, needs)
+
+returns-3 : tie.Need-returns-3
+returns-3 c = search (alnum-mid, needs)
+
+returns-4 : tie.Need-returns-4
+returns-4 c = search (alnum-high, needs)
+
+pub alnum-spec : {M : Type 1} → statement M
+alnum-spec = tie.close (tie.spec returns returns-2 returns-3 returns-4)

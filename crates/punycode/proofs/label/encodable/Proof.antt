@@ -1,0 +1,29 @@
+use borrow.Author.Tests.{not-true, not-false}
+use native.Mathlib.Omega.{arith}
+use Rattle.punycode.proofs.Rungs.{encodable-none, encodable-many, encodable-bad, encodable-rest}
+use borrow.Author.Needs.{needs}
+use Rattle.punycode.proofs.label.encodable.Statement.{statement}
+use Rattle.punycode.proofs.label.encodable.Tie as tie
+
+returns : tie.Need-returns
+returns c = encodable-none _ (c .if1 .taken)
+
+returns-2 : tie.Need-returns-2
+returns-2 c = encodable-many _ (c .if2 .taken)
+
+all-allowed-requires : tie.Need-all-allowed-requires
+all-allowed-requires c κs = search needs
+
+returns-3 : tie.Need-returns-3
+returns-3 c = encodable-bad _ (omega arith) (omega arith) _ (c .before .all-allowed .ensures) (not-true _ (c .if3 .taken))
+
+any-high-requires : tie.Need-any-high-requires
+any-high-requires c κs = search needs
+
+returns-4 : tie.Need-returns-4
+returns-4 c = encodable-rest _ (omega arith) (omega arith) _ (c .before .before .all-allowed .ensures) _ (not-false _ (c .before .if3 .left)) (c .any-high .ensures)
+
+pub encodable-spec : {M : Type 1} → statement M
+encodable-spec =
+    tie.close
+    (tie.spec returns returns-2 all-allowed-requires returns-3 any-high-requires returns-4)

@@ -1,0 +1,60 @@
+-- What the calls answer and leave in the buffer that is lent to them: document 01, "Numbers a call may answer" and "Coder and decoder".
+use mathlib.Core.Path.{_≡_}
+use mathlib.Core.Bool.{Bool, true, false}
+use mathlib.Core.List.{List, [], map}
+use Prim.Native.Nat.{ℕ, _+_, _≤_, _<_}
+use lib.Dec.{leb, ltb, eqb}
+use lib.ListN.{length}
+use Rattle.lists.specs.Tests.{pick, within}
+use Rattle.lists.specs.Front.{written}
+use Rattle.punycode.specs.Punycode.{ace, encodable}
+use Rattle.punycode.specs.declared.Coded.{Coded}
+
+-- octets of an encoded label, and code points of a decoded one: the room that a call asks for
+abbrev pub most : ℕ
+most = 63
+
+-- a call answers n, and writes xs
+abbrev pub answered : ℕ → List ℕ → Coded
+answered n xs = record { number = n; place = 0; length = length xs }
+
+-- ---- the coder
+
+-- 1: the buffer is too short; 13: the label is not encodable; 14: its encoding has over 63 octets; else 0
+unfoldable pub coderNumber : List ℕ → ℕ → ℕ
+coderNumber label room =
+    pick (ltb room most) 1
+    (pick (encodable label) (pick (leb (length (ace label)) most) 0 14) 13)
+
+-- the encoding where the number is 0, else nothing
+unfoldable pub coderWrites : List ℕ → ℕ → List ℕ
+coderWrites label room = pick (eqb (coderNumber label room) 0) (ace label) []
+
+pub record Encodes (label before after : List ℕ) (r : Coded) : Type 0 where
+  pub answer : r ≡ answered (coderNumber label (length before)) (coderWrites label (length before))
+  pub buffer : after ≡ written (coderWrites label (length before)) before
+
+-- ---- the decoder
+
+-- A to Z in lower case
+unfoldable pub lower : ℕ → ℕ
+lower c = pick (within 0x41 0x5A c) (c + 0x20) c
+
+-- the octets, with A to Z put in lower case, are the encoding of l, an encodable label, with at most 63 octets
+pub record Encoding (octets l : List ℕ) : Type 0 where
+  pub fit : encodable l ≡ true
+  pub is : ace l ≡ map lower octets
+  pub short : length octets ≤ most
+
+-- 1 and nothing written: the buffer is too short; 0 and l written: the octets are the encoding of l; 15 and nothing written: they are the encoding of no label
+pub data Decoding (octets : List ℕ) (room : ℕ) : ℕ → List ℕ → Type 0 where
+  small : room < most → Decoding octets room 1 []
+  taken : (l : List ℕ) → most ≤ room → Encoding octets l → Decoding octets room 0 l
+  left : most ≤ room → ((l : List ℕ) → Encoding octets l → ⊥) → Decoding octets room 15 []
+
+pub record Decodes (octets before after : List ℕ) (r : Coded) : Type 0 where
+  pub number : ℕ
+  pub label : List ℕ
+  pub says : Decoding octets (length before) number label
+  pub answer : r ≡ answered number label
+  pub buffer : after ≡ written label before

@@ -1,0 +1,5 @@
+pub mod Punycode
+pub mod Calls
+pub mod Samples
+pub mod Decoding
+pub mod Inner

@@ -1,0 +1,141 @@
+-- The labels of a text: a period ends a label and begins the next, any other character stands in the label it came to; so each law
+-- is an induction over the text.
+-- Assumes nothing.
+use mathlib.Core.Path.{_≡_, refl, ap, _∙_}
+use mathlib.Core.Bool.{Bool, true, false, _||_}
+use mathlib.Core.List.{List, [], _∷_, _++_}
+use Prim.Native.Nat.{ℕ, suc, _+_, _-_, _≤_, _<_}
+use native.Mathlib.Numerals.{add-one}
+use native.Mathlib.Omega.{arith}
+use lib.ListN.{length, take, drop, length-drop}
+use lib.Seq.{drop-drop, length-take-le}
+use borrow.Author.Tests.{eqb-true, not-false}
+use Rattle.lists.specs.Tests.{pick, allOf, anyOf, firstOf}
+use Rattle.lists.proofs.Laws.{neither}
+use Rattle.rules.specs.Labels.{period, onto, labels, join}
+use Rattle.rules.specs.Permits.{Permits, labelChar}
+use Rattle.rules.specs.Rules.{unfit}
+use Rattle.rules.proofs.Views.{first-bound}
+
+-- ---- a text and its labels, of which there is always one
+
+pub data Labelled : List ℕ → List (List ℕ) → Type 0 where
+  none : Labelled [] ([] ∷ [])
+  cut : {xs l : List ℕ} {ls : List (List ℕ)} → Labelled xs (l ∷ ls) → Labelled (0x2E ∷ xs) ([] ∷ l ∷ ls)
+  held : {x : ℕ} {xs l : List ℕ} {ls : List (List ℕ)} → period x ≡ false → Labelled xs (l ∷ ls) → Labelled (x ∷ xs) ((x ∷ l) ∷ ls)
+
+cut-on : {xs : List ℕ} {ls : List (List ℕ)} → Labelled xs ls → Labelled (0x2E ∷ xs) ([] ∷ ls)
+cut-on none = cut none
+cut-on (cut d) = cut (cut d)
+cut-on (held p d) = cut (held p d)
+
+held-on : {x : ℕ} {xs : List ℕ} {ls : List (List ℕ)} → period x ≡ false → Labelled xs ls → Labelled (x ∷ xs) (onto x ls)
+unfolding onto
+held-on p none = held p none
+held-on p (cut d) = held p (cut d)
+held-on p (held q d) = held p (held q d)
+
+pub labelled : (t : List ℕ) → Labelled t (labels t)
+unfolding labels period
+labelled [] = none
+labelled (x ∷ xs) = go (period x) refl (labelled xs)
+  where
+    go : (b : Bool) → period x ≡ b → Labelled xs (labels xs) → Labelled (x ∷ xs) (pick b ([] ∷ labels xs) (onto x (labels xs)))
+    go true p d = rw (eqb-true x 0x2E p) (cut-on d)
+    go false p d = held-on p d
+
+-- ---- joined again, the labels are the text
+
+join-held : (x : ℕ) (l : List ℕ) (ls : List (List ℕ)) → join ((x ∷ l) ∷ ls) ≡ x ∷ join (l ∷ ls)
+unfolding join
+join-held x l [] = refl
+join-held x l (m ∷ ls) = refl
+
+joined : {t : List ℕ} {ls : List (List ℕ)} → Labelled t ls → join ls ≡ t
+unfolding join
+joined none = refl
+joined (cut d) = ap (λ (t : List ℕ). 0x2E ∷ t) (joined d)
+joined (held {x = x} {l = l} {ls = ls} p d) = join-held x l ls ∙ ap (λ (t : List ℕ). x ∷ t) (joined d)
+
+pub join-labels : (t : List ℕ) → join (labels t) ≡ t
+join-labels t = joined (labelled t)
+
+-- ---- what a label holds
+
+no-periods : {t : List ℕ} {ls : List (List ℕ)} → Labelled t ls → anyOf (anyOf period) ls ≡ false
+unfolding anyOf
+no-periods none = refl
+no-periods (cut d) = no-periods d
+no-periods (held p d) = rw p (no-periods d)
+
+-- no label holds a period
+pub no-period : (t : List ℕ) → anyOf (anyOf period) (labels t) ≡ false
+no-period t = no-periods (labelled t)
+
+module _ (P : Permits) where
+  labels-held : {t : List ℕ} {ls : List (List ℕ)} → Labelled t ls → anyOf (unfit P) t ≡ false → allOf (allOf (labelChar P)) ls ≡ true
+  unfolding allOf anyOf unfit
+  labels-held none e = refl
+  labels-held (cut d) e = labels-held d (neither (unfit P 0x2E) _ e .1)
+  labels-held (held {x = x} {xs = xs} p d) e =
+      let n = neither (unfit P x) (anyOf (unfit P) xs) e in
+      let w : labelChar P x ≡ true = rw p at (not-false (period x || labelChar P x) (n .0)) in
+      rw w (labels-held d (n .1))
+
+  -- where the text holds no unfit character, each label holds only what a label may hold
+  pub labels-fit : (t : List ℕ) → anyOf (unfit P) t ≡ false → allOf (allOf (labelChar P)) (labels t) ≡ true
+  labels-fit t e = labels-held (labelled t) e
+
+-- ---- the labels of a label, a period and a rest
+
+pub labels-cut : (l r : List ℕ) → anyOf period l ≡ false → labels (l ++ 0x2E ∷ r) ≡ l ∷ labels r
+unfolding labels anyOf onto period
+labels-cut [] r e = refl
+labels-cut (x ∷ xs) r e =
+    let h = neither (period x) (anyOf period xs) e in
+    rw (h .0, labels-cut xs r (h .1))
+
+-- ---- the first label ends at the first period
+
+pub last-label : (t : List ℕ) → length t ≤ firstOf period t → labels t ≡ t ∷ []
+unfolding firstOf labels onto
+last-label [] e = refl
+last-label (x ∷ xs) e = go (period x) e (last-label xs)
+  where
+    go : (b : Bool) → suc (length xs) ≤ pick b 0 (suc (firstOf period xs)) → (length xs ≤ firstOf period xs → labels xs ≡ xs ∷ [])
+        → pick b ([] ∷ labels xs) (onto x (labels xs)) ≡ (x ∷ xs) ∷ []
+    go true e on = absurd (omega arith)
+    go false e on = rw (on (omega arith))
+
+pub first-label : (t : List ℕ) → firstOf period t < length t
+    → labels t ≡ take (firstOf period t) t ∷ labels (drop (firstOf period t + 1) t)
+unfolding firstOf labels onto
+first-label [] h = absurd (omega arith)
+first-label (x ∷ xs) h = go (period x) h (first-label xs)
+  where
+    go : (b : Bool) → pick b 0 (suc (firstOf period xs)) < suc (length xs)
+        → (firstOf period xs < length xs → labels xs ≡ take (firstOf period xs) xs ∷ labels (drop (firstOf period xs + 1) xs))
+        → pick b ([] ∷ labels xs) (onto x (labels xs))
+        ≡ take (pick b 0 (suc (firstOf period xs))) (x ∷ xs) ∷ labels (drop (pick b 0 (suc (firstOf period xs)) + 1) (x ∷ xs))
+    go true h on = refl
+    go false h on = rw (on (omega arith), add-one (firstOf period xs), add-one (suc (firstOf period xs)))
+
+-- ---- the same from index i on, where the search for a period came to e
+
+module _ (t : List ℕ) (i e : ℕ) (h : i ≤ length t) (s : e ≡ i + firstOf period (drop i t)) where
+  pub ended : (i ≤ e) × (e ≤ length t)
+  ended = omega (arith, first-bound period (drop i t), length-drop i t)
+
+  pub last-from : length t ≤ e → labels (drop i t) ≡ drop i t ∷ []
+  last-from k = last-label (drop i t) (omega (arith, length-drop i t))
+
+  module _ (k : e < length t) where
+    pub first-from : labels (drop i t) ≡ take (e - i) (drop i t) ∷ labels (drop (e + 1) t)
+    first-from =
+        let n : firstOf period (drop i t) ≡ e - i = omega arith in
+        let m : i + (e - i + 1) ≡ e + 1 = omega arith in
+        let d : drop (e - i + 1) (drop i t) ≡ drop (e + 1) t = drop-drop (e - i + 1) i t ∙ ap (λ (j : ℕ). drop j t) m in
+        first-label (drop i t) (omega (arith, length-drop i t)) ∙ rw (n, d)
+
+    pub first-length : length (take (e - i) (drop i t)) ≡ e - i
+    first-length = length-take-le (e - i) (drop i t) (omega (arith, length-drop i t))

@@ -1,0 +1,157 @@
+-- Labels to which none of rules 5 to 12 applies, joined, are a name that derives, and a name that derives has such labels: two or
+-- three, the first sound, the last jp, the middle one listed.
+-- Assumes nothing.
+use mathlib.Core.Path.{_≡_, refl, ap, _∙_}
+use mathlib.Core.Bool.{Bool, true, false, not, _&&_, _||_, false≢true}
+use mathlib.Core.List.{List, [], _∷_, _++_}
+use mathlib.Core.Logic.{_⊎_, inl, inr, ⊎-elim}
+use Prim.Native.Nat.{ℕ, _-_, _≤_}
+use native.Mathlib.Omega.{arith}
+use lib.Dec.{eqb, ltb}
+use lib.ListN.{length, getD, length-append}
+use borrow.Author.Tests.{eqb-true, ltb-false, not-false}
+use Rattle.lists.specs.Tests.{pick, within, allOf, anyOf}
+use Rattle.lists.specs.Rows.{Row}
+use Rattle.lists.proofs.Laws.{both, neither, or-right, any-append, all-none, same-is, same-refl}
+use Rattle.lists.proofs.Tables.{Clear}
+use Rattle.characters.specs.Characters.{alnum, hyphen, asciiSet}
+use Rattle.rules.specs.Labels.{period, onto, labels, join}
+use Rattle.rules.specs.Permits.{Permits, Laws, labelChar, isEmpty}
+use Rattle.rules.specs.Rules.{unfit, isJapanese, long, labelRows, jp, nameRows, classOf}
+use Rattle.rules.specs.Grammar.{label, Derives, general, prefecture, listed}
+use Rattle.rules.specs.declared.Class.{Class}
+use Rattle.rules.proofs.Cuts.{labels-cut}
+use Rattle.rules.proofs.Sound.{Sound, label-sound, sound-label}
+
+-- ---- one table after another
+
+split-clear : (rs ss : List Row) → Clear (rs ++ ss) → Clear rs × Clear ss
+split-clear [] ss c = (tt, c)
+split-clear (r ∷ rs) ss c = let k = split-clear rs ss (c .1) in ((c .0, k .0), k .1)
+
+join-clear : (rs ss : List Row) → Clear rs → Clear ss → Clear (rs ++ ss)
+join-clear [] ss c d = d
+join-clear (r ∷ rs) ss c d = (c .0, join-clear rs ss (c .1) d)
+
+-- ---- two labels or three
+
+two-or-three : (n : ℕ) (b : Bool) → not (eqb n 2 || (b && eqb n 3)) ≡ false → (n ≡ 2) ⊎ (n ≡ 3)
+two-or-three n b e = go (eqb n 2) refl (not-false _ e)
+  where
+    go : (t : Bool) → eqb n 2 ≡ t → t || (b && eqb n 3) ≡ true → (n ≡ 2) ⊎ (n ≡ 3)
+    go true p q = inl (eqb-true n 2 p)
+    go false p q = inr (eqb-true n 3 (both b (eqb n 3) q .1))
+
+-- what the rules have let pass
+record Passed (P : Permits) (ls : List (List ℕ)) : Type 0 where
+  count : (length ls ≡ 2) ⊎ (length ls ≡ 3)
+  filled : anyOf isEmpty ls ≡ false
+  left : Clear (labelRows P 3 (getD ls 0 []) 0)
+  last : getD ls (length ls - 1) [] ≡ jp
+  mid : eqb (length ls) 3 && not (P .middle (getD ls 1 [])) ≡ false
+
+passed : (P : Permits) (ls : List (List ℕ)) → Clear (nameRows P ls) → Passed P ls
+unfolding nameRows
+passed P ls c =
+    let k = split-clear (labelRows P 3 (getD ls 0 []) 0) _ (c .1 .1) in
+    record {
+      count = two-or-three (length ls) (P .three) (c .0);
+      filled = c .1 .0;
+      left = k .0;
+      last = same-is _ jp (not-false _ (k .1 .0));
+      mid = k .1 .1 .0;
+    }
+
+module _ (P : Permits) (L : Laws P) where
+  -- ---- from the rules to the grammar
+
+  left-label : (a : List ℕ) (ls : List (List ℕ)) → allOf (allOf (labelChar P)) (a ∷ ls) ≡ true → Passed P (a ∷ ls) → label P a
+  unfolding allOf anyOf
+  left-label a ls w C = sound-label P L (record { chars = both _ _ w .0; filled = neither (isEmpty a) _ (C .filled) .0; clear = C .left })
+
+  derived : (ls : List (List ℕ)) → allOf (allOf (labelChar P)) ls ≡ true → Passed P ls → Derives P (classOf ls) (join ls)
+  unfolding join jp classOf
+  derived [] w C = absurd (⊎-elim (λ e. omega arith) (λ e. omega arith) (C .count))
+  derived (a ∷ []) w C = absurd (⊎-elim (λ e. omega arith) (λ e. omega arith) (C .count))
+  derived (a ∷ b ∷ []) w C =
+      rw (C .last) (general (left-label a _ w C))
+  derived (a ∷ b ∷ c ∷ []) w C =
+      rw (C .last) (prefecture (left-label a _ w C) (listed (not-false (P .middle b) (C .mid))))
+  derived (a ∷ b ∷ c ∷ d ∷ ls) w C = absurd (⊎-elim (λ e. omega arith) (λ e. omega arith) (C .count))
+
+  pub clear-derives : (ls : List (List ℕ)) → allOf (allOf (labelChar P)) ls ≡ true → Clear (nameRows P ls) → Derives P (classOf ls) (join ls)
+  clear-derives ls w c = derived ls w (passed P ls c)
+
+  -- ---- from the grammar to the rules
+
+  -- what the rules ask of a normal form, its class, and how long it is
+  pub record Name (k : Class) (t : List ℕ) : Type 0 where
+    pub fit : anyOf (unfit P) t ≡ false
+    pub clear : Clear (nameRows P (labels t))
+    pub class : classOf (labels t) ≡ k
+    pub some : 1 ≤ length t
+    pub few : length t ≤ 127
+
+  label-no-period : (c : ℕ) → labelChar P c ≡ true → period c ≡ false
+  unfolding labelChar period asciiSet alnum within hyphen
+  label-no-period c e = go (eqb c 0x2E) refl
+    where
+      go : (b : Bool) → eqb c 0x2E ≡ b → b ≡ false
+      go false p = refl
+      go true p = absurd (false≢true (rw (eqb-true c 0x2E p, L .dot) at e))
+
+  no-period : (l : List ℕ) → allOf (labelChar P) l ≡ true → anyOf period l ≡ false
+  no-period l w = all-none (labelChar P) period label-no-period l w
+
+  label-fit : (c : ℕ) → labelChar P c ≡ true → unfit P c ≡ false
+  unfolding unfit
+  label-fit c e = ap not (or-right (period c) (labelChar P c) e)
+
+  fits : (l r : List ℕ) → allOf (labelChar P) l ≡ true → anyOf (unfit P) r ≡ false → anyOf (unfit P) (l ++ 0x2E ∷ r) ≡ false
+  unfolding anyOf unfit period
+  fits l r w e = any-append (unfit P) l (0x2E ∷ r) ∙ rw (all-none (labelChar P) (unfit P) label-fit l w) e
+
+  jp-fits : anyOf (unfit P) (0x6A ∷ 0x70 ∷ []) ≡ false
+  unfolding anyOf unfit period labelChar asciiSet alnum within
+  jp-fits = rw (or-right (P .japanese 0x6A) true refl, or-right (P .japanese 0x70) true refl)
+
+  labels-jp : labels (0x6A ∷ 0x70 ∷ []) ≡ (0x6A ∷ 0x70 ∷ []) ∷ []
+  unfolding labels onto period
+  labels-jp = refl
+
+  label-length : (l : List ℕ) → Sound P l → length l ≤ 63
+  unfolding labelRows long
+  label-length l S = go (isJapanese P l) (S .clear .1 .1 .0)
+    where
+      go : (b : Bool) → ltb (pick b 15 63) (length l) ≡ false → length l ≤ 63
+      go true e = omega (arith, ltb-false 15 (length l) e)
+      go false e = omega (arith, ltb-false 63 (length l) e)
+
+  pub named : {t : List ℕ} {k : Class} → Derives P k t → Name k t
+  unfolding nameRows anyOf isEmpty jp classOf
+  named (general {l = l} d) =
+      let S = label-sound P L d in
+      let e : labels (l ++ 0x2E ∷ 0x6A ∷ 0x70 ∷ []) ≡ l ∷ (0x6A ∷ 0x70 ∷ []) ∷ [] = labels-cut l _ (no-period l (S .chars)) ∙ rw labels-jp in
+      let n = label-length l S in
+      record {
+        fit = fits l _ (S .chars) jp-fits;
+        clear = rw e (refl, (rw (S .filled), join-clear (labelRows P 3 l 0) _ (S .clear) (ap not (same-refl jp), (refl, tt))));
+        class = rw e;
+        some = omega (arith, length-append l (0x2E ∷ 0x6A ∷ 0x70 ∷ []));
+        few = omega (arith, length-append l (0x2E ∷ 0x6A ∷ 0x70 ∷ []));
+      }
+  named (prefecture {l = l} {m = m} d (listed p)) =
+      let S = label-sound P L d in
+      let w = L .middle-chars m p in
+      let e : labels (l ++ 0x2E ∷ (m ++ 0x2E ∷ 0x6A ∷ 0x70 ∷ [])) ≡ l ∷ m ∷ (0x6A ∷ 0x70 ∷ []) ∷ [] =
+      labels-cut l _ (no-period l (S .chars)) ∙ rw (labels-cut m (0x6A ∷ 0x70 ∷ []) (no-period m w), labels-jp) in
+      let n = label-length l S in
+      let i = L .middle-short m p in
+      let o = length-append m (0x2E ∷ 0x6A ∷ 0x70 ∷ []) in
+      record {
+        fit = fits l _ (S .chars) (fits m _ w jp-fits);
+        clear = rw e (rw (L .middle-three m p), (rw (S .filled, L .middle-filled m p), join-clear (labelRows P 3 l 0) _ (S .clear) (ap not (same-refl jp), (rw p, tt))));
+        class = rw e;
+        some = omega (arith, length-append l (0x2E ∷ (m ++ 0x2E ∷ 0x6A ∷ 0x70 ∷ [])));
+        few = omega (arith, length-append l (0x2E ∷ (m ++ 0x2E ∷ 0x6A ∷ 0x70 ∷ [])));
+      }

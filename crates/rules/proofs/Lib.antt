@@ -1,0 +1,10 @@
+pub mod Views
+pub mod Cuts
+pub mod Says
+pub mod Sound
+pub mod ReaderAgrees
+pub mod Derived
+pub mod Exactly
+pub mod Today
+pub mod Steps
+pub mod InForce

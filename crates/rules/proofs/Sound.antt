@@ -1,0 +1,335 @@
+-- A label derives exactly where none of rules 7 to 10 applies to it: grammar and rules ask the same of its two ends, of its length
+-- and of its characters.
+-- Assumes nothing.
+use mathlib.Core.Path.{_≡_, refl, sym, ap, _∙_}
+use mathlib.Core.Bool.{Bool, true, false, not, _&&_, _||_, false≢true, true≢false}
+use mathlib.Core.List.{List, [], _∷_, _++_}
+use Prim.Native.Nat.{ℕ, _+_, _≤_}
+use native.Mathlib.Omega.{arith}
+use lib.Dec.{eqb, ltb}
+use lib.ListN.{length}
+use borrow.Author.Tests.{eqb-true, ne-eqb, ltb-false, le-ltb, not-true}
+use Rattle.lists.specs.Tests.{within, allOf, anyOf}
+use Rattle.lists.proofs.Laws.{both, neither, or-left, or-right, clash, in-range, all-append, any-append, all-weaker, all-none}
+use Rattle.lists.proofs.Tables.{Clear}
+use Rattle.characters.specs.Characters.{alnum, hyphen, asciiSet}
+use Rattle.rules.specs.Permits.{Permits, Laws, labelChar, isEmpty}
+use Rattle.rules.specs.Rules.{middleDot, ordinary, isJapanese, beginsWithHyphen, endsWithHyphen, hyphenEdge, short, long, bareDot, labelRows}
+use Rattle.rules.specs.Grammar as G
+use Rattle.rules.proofs.Views.{or-false, and-false, all-but, Cut, cut, cut-at, Ends, empty, single, pair, ends, all-ends, any-ends, length-ends}
+use Rattle.rules.proofs.Says.{star-all, all-star, alnum-says, ascii-says, dot-says, exception, exceptional, exceptional-says, ja-says, label-says, edgeChar, edge-says}
+
+-- what document 01 asks of a leftmost label: not empty, only what a label may hold, and none of 7 to 10
+pub record Sound (P : Permits) (l : List ℕ) : Type 0 where
+  pub chars : allOf (labelChar P) l ≡ true
+  pub filled : isEmpty l ≡ false
+  pub clear : Clear (labelRows P 3 l 0)
+
+-- ---- characters
+
+alnum-range : (c : ℕ) → alnum c ≡ true → (0x30 ≤ c) × (c ≤ 0x7A)
+unfolding alnum
+alnum-range c e = go (within 0x30 0x39 c) refl e
+  where
+    go : (b : Bool) → within 0x30 0x39 c ≡ b → b || within 0x61 0x7A c ≡ true → (0x30 ≤ c) × (c ≤ 0x7A)
+    go true p q = let h = in-range 0x30 0x39 c p in omega arith
+    go false p q = let h = in-range 0x61 0x7A c q in omega arith
+
+pub ascii-range : (c : ℕ) → asciiSet c ≡ true → (0x2D ≤ c) × (c ≤ 0x7A)
+unfolding asciiSet hyphen
+ascii-range c e = go (alnum c) refl e
+  where
+    go : (b : Bool) → alnum c ≡ b → b || eqb c 0x2D ≡ true → (0x2D ≤ c) × (c ≤ 0x7A)
+    go true p q = let h = alnum-range c p in omega arith
+    go false p q = let h = eqb-true c 0x2D q in omega arith
+
+pub ascii-no-dot : (c : ℕ) → asciiSet c ≡ true → middleDot c ≡ false
+unfolding middleDot
+ascii-no-dot c e = let h = ascii-range c e in ne-eqb c 0x30FB (omega arith)
+
+pub hyphen-ascii : (c : ℕ) → hyphen c ≡ true → asciiSet c ≡ true
+unfolding asciiSet
+hyphen-ascii c e = or-right (alnum c) (hyphen c) e
+
+-- a letter or a digit is of the ASCII set, and no hyphen; what else is of it is the hyphen
+alnum-ascii : (c : ℕ) → alnum c ≡ true → (asciiSet c ≡ true) × (hyphen c ≡ false)
+unfolding asciiSet hyphen
+alnum-ascii c e = let h = alnum-range c e in (or-left (alnum c) (eqb c 0x2D) e, ne-eqb c 0x2D (omega arith))
+
+ascii-alnum : (c : ℕ) → asciiSet c ≡ true → hyphen c ≡ false → alnum c ≡ true
+unfolding asciiSet
+ascii-alnum c e n = sym (or-false (alnum c)) ∙ (rw n at e)
+
+-- ---- ends
+
+ends-snoc : (m : List ℕ) (z : ℕ) → endsWithHyphen (m ++ (z ∷ [])) ≡ hyphen z
+unfolding endsWithHyphen
+ends-snoc [] z = refl
+ends-snoc (x ∷ []) z = refl
+ends-snoc (x ∷ y ∷ ys) z = ends-snoc (y ∷ ys) z
+
+edge-ends : (a : ℕ) (m : List ℕ) (z : ℕ) → hyphenEdge (a ∷ (m ++ (z ∷ []))) ≡ hyphen a || hyphen z
+unfolding hyphenEdge beginsWithHyphen
+edge-ends a m z = ap (λ (b : Bool). hyphen a || b) (ends-snoc (a ∷ m) z)
+
+module _ (P : Permits) (L : Laws P) where
+  -- a character at an end is one that a label may hold, and no hyphen
+  edge-label : (c : ℕ) → edgeChar P c ≡ true → (labelChar P c ≡ true) × (hyphen c ≡ false)
+  unfolding edgeChar labelChar
+  edge-label c e = go (P .japanese c) refl e
+    where
+      no-hyphen : (b : Bool) → hyphen c ≡ b → P .japanese c ≡ true → b ≡ false
+      no-hyphen true p j = clash j (L .ascii c (hyphen-ascii c p))
+      no-hyphen false p j = refl
+
+      go : (b : Bool) → P .japanese c ≡ b → b || alnum c ≡ true → (P .japanese c || asciiSet c ≡ true) × (hyphen c ≡ false)
+      go true p q = (or-left (P .japanese c) (asciiSet c) p, no-hyphen (hyphen c) refl p)
+      go false p q = let k = alnum-ascii c q in (or-right (P .japanese c) (asciiSet c) (k .0), k .1)
+
+  label-edge : (c : ℕ) → labelChar P c ≡ true → hyphen c ≡ false → edgeChar P c ≡ true
+  unfolding edgeChar labelChar
+  label-edge c e n = go (P .japanese c) e
+    where
+      go : (j : Bool) → j || asciiSet c ≡ true → j || alnum c ≡ true
+      go true q = refl
+      go false q = ascii-alnum c q n
+
+  ja-edge : (c : ℕ) → P .japanese c ≡ true → edgeChar P c ≡ true
+  unfolding edgeChar
+  ja-edge c e = or-left (P .japanese c) (alnum c) e
+
+  alnum-edge : (c : ℕ) → alnum c ≡ true → edgeChar P c ≡ true
+  unfolding edgeChar
+  alnum-edge c e = or-right (P .japanese c) (alnum c) e
+
+  -- ---- what the forms of a label have in common
+
+  record Framed (l : List ℕ) : Type 0 where
+    chars : allOf (labelChar P) l ≡ true
+    no-edge : hyphenEdge l ≡ false
+
+  framed : (a : ℕ) (m : List ℕ) (z : ℕ) → edgeChar P a ≡ true → allOf (labelChar P) m ≡ true → edgeChar P z ≡ true → Framed (a ∷ (m ++ (z ∷ [])))
+  framed a m z p r q =
+      let k = edge-label a p in
+      let n = edge-label z q in
+      record { chars = all-ends a m z (labelChar P) ∙ rw (k .0, r, n .0); no-edge = edge-ends a m z ∙ rw (k .1, n .1) }
+
+  record Frame (a : ℕ) (m : List ℕ) (z : ℕ) : Type 0 where
+    first : edgeChar P a ≡ true
+    mid : allOf (labelChar P) m ≡ true
+    last : edgeChar P z ≡ true
+
+  frame : (a : ℕ) (m : List ℕ) (z : ℕ) → Framed (a ∷ (m ++ (z ∷ []))) → Frame a m z
+  frame a m z F =
+      let c = both (labelChar P a) _ (sym (all-ends a m z (labelChar P)) ∙ F .chars) in
+      let d = both (allOf (labelChar P) m) (labelChar P z) (c .1) in
+      let n = neither (hyphen a) (hyphen z) (sym (edge-ends a m z) ∙ F .no-edge) in
+      record { first = label-edge a (c .0) (n .0); mid = d .0; last = label-edge z (d .1) (n .1) }
+
+  -- ---- an ASCII label
+
+  pub ascii-label : (c : ℕ) → asciiSet c ≡ true → labelChar P c ≡ true
+  unfolding labelChar
+  ascii-label c e = or-right (P .japanese c) (asciiSet c) e
+
+  label-ascii : (c : ℕ) → labelChar P c ≡ true → P .japanese c ≡ false → asciiSet c ≡ true
+  unfolding labelChar
+  label-ascii c e n = rw n at e
+
+  ascii-sound : {l : List ℕ} → G.ASCII-label l → Sound P l
+  unfolding isEmpty labelRows isJapanese short long bareDot
+  ascii-sound (G.ascii {a = a} {z = z} {m = m} p r lo hi q) =
+      let w : List ℕ = a ∷ (m ++ (z ∷ [])) in
+      let pa = alnum-says a .1 p in
+      let pz = alnum-says z .1 q in
+      let rm : allOf asciiSet m ≡ true = star-all _ _ ascii-says r in
+      let all : allOf asciiSet w ≡ true = all-ends a m z asciiSet ∙ rw (alnum-ascii a pa .0, rm, alnum-ascii z pz .0) in
+      let no-ja : anyOf (P .japanese) w ≡ false = all-none asciiSet (P .japanese) (L .ascii) w all in
+      let n : length w ≡ length m + 2 = length-ends a m z in
+      let F = framed a m z (alnum-edge a pa) (all-weaker asciiSet (labelChar P) ascii-label m rm) (alnum-edge z pz) in
+      record {
+        chars = F .chars;
+        filled = refl;
+        clear = (
+          F .no-edge,
+          (
+            rw (no-ja, le-ltb (length w) 3 (omega arith)),
+            (
+              rw (no-ja, le-ltb 63 (length w) (omega arith)),
+              (rw (all-none asciiSet middleDot ascii-no-dot w all), tt),
+            ),
+          ),
+        );
+      }
+
+  sound-ascii : {l : List ℕ} → Ends l → Sound P l → anyOf (P .japanese) l ≡ false → G.ASCII-label l
+  unfolding isEmpty labelRows isJapanese short long
+  sound-ascii empty S e = absurd (true≢false (S .filled))
+  sound-ascii (single a) S e = absurd (true≢false (rw e at (S .clear .1 .0)))
+  sound-ascii (pair a m z) S e =
+      let w : List ℕ = a ∷ (m ++ (z ∷ [])) in
+      let n : length w ≡ length m + 2 = length-ends a m z in
+      let h = neither (hyphen a) (hyphen z) (sym (edge-ends a m z) ∙ S .clear .0) in
+      let all = sym (all-ends a m z asciiSet) ∙ all-but (labelChar P) (P .japanese) asciiSet label-ascii w (S .chars) e in
+      let c = both (asciiSet a) _ all in
+      let d = both (allOf asciiSet m) (asciiSet z) (c .1) in
+      let lo : ltb (length w) 3 ≡ false = rw e at (S .clear .1 .0) in
+      let hi : ltb 63 (length w) ≡ false = rw e at (S .clear .1 .1 .0) in
+      G.ascii (alnum-says a .0 (ascii-alnum a (c .0) (h .0))) (all-star _ _ ascii-says m (d .0))
+      (omega (arith, ltb-false (length w) 3 lo)) (omega (arith, ltb-false 63 (length w) hi))
+      (alnum-says z .0 (ascii-alnum z (d .1) (h .1)))
+
+  -- ---- the four forms of a Japanese label
+
+  record Formed (l : List ℕ) : Type 0 where
+    frame : Framed l
+    some-ja : anyOf (P .japanese) l ≡ true
+
+  formed : {l : List ℕ} → G.JA-form P l → Formed l
+  unfolding anyOf allOf hyphenEdge beginsWithHyphen endsWithHyphen
+  formed (G.form-1 {c = c} p) =
+      let j = ja-says P c .1 p in
+      let k = edge-label c (ja-edge c j) in
+      record { frame = record { chars = rw (k .0); no-edge = rw (k .1) }; some-ja = rw j }
+  formed (G.form-2 {a = a} {z = z} {m = m} p r q) =
+      let j = ja-says P a .1 p in
+      record {
+        frame = framed a m z (ja-edge a j) (star-all _ _ (label-says P) r) (edge-says P z .1 q);
+        some-ja = any-ends a m z (P .japanese) ∙ rw j;
+      }
+  formed (G.form-3 {a = a} {z = z} {m = m} p r q) =
+      let j = ja-says P z .1 q in
+      record {
+        frame = framed a m z (alnum-edge a (alnum-says a .1 p)) (star-all _ _ (label-says P) r) (ja-edge z j);
+        some-ja = any-ends a m z (P .japanese) ∙ or-right (P .japanese a) _ (or-right (anyOf (P .japanese) m) _ j);
+      }
+  formed (G.form-4 {a = a} {j = j} {z = z} {m = m} {n = n} p r q s t) =
+      let w : List ℕ = m ++ j ∷ n in
+      let e = ja-says P j .1 q in
+      let k = edge-label j (ja-edge j e) in
+      let c : allOf (labelChar P) w ≡ true =
+      all-append (labelChar P) m (j ∷ n) ∙ rw (star-all _ _ (label-says P) r, k .0, star-all _ _ (label-says P) s) in
+      let some : anyOf (P .japanese) w ≡ true = any-append (P .japanese) m (j ∷ n) ∙ or-right (anyOf (P .japanese) m) _ (or-left (P .japanese j) _ e) in
+      record {
+        frame = framed a w z (alnum-edge a (alnum-says a .1 p)) c (alnum-edge z (alnum-says z .1 t));
+        some-ja = any-ends a w z (P .japanese) ∙ or-right (P .japanese a) _ (or-left (anyOf (P .japanese) w) _ some);
+      }
+
+  inside-form : (a z : ℕ) {m : List ℕ} → G.ALNUM a → G.ALNUM z → allOf (labelChar P) m ≡ true → Cut (P .japanese) m
+      → G.JA-form P (a ∷ (m ++ (z ∷ [])))
+  unfolding allOf
+  inside-form a z p q r (cut m j n e) =
+      let h = both (allOf (labelChar P) m) (allOf (labelChar P) (j ∷ n)) (sym (all-append (labelChar P) m (j ∷ n)) ∙ r) in
+      let k = both (labelChar P j) (allOf (labelChar P) n) (h .1) in
+      G.form-4 p (all-star _ _ (label-says P) m (h .0)) (ja-says P j .0 e) (all-star _ _ (label-says P) n (k .1)) q
+
+  form : {l : List ℕ} → Ends l → Formed l → G.JA-form P l
+  unfolding anyOf edgeChar
+  form empty F = absurd (false≢true (F .some-ja))
+  form (single a) F = G.form-1 (ja-says P a .0 (sym (or-false (P .japanese a)) ∙ F .some-ja))
+  form (pair a m z) F =
+      let k = frame a m z (F .frame) in
+      go (P .japanese a) refl (P .japanese z) refl (k .first) (k .mid) (k .last) (sym (any-ends a m z (P .japanese)) ∙ F .some-ja)
+    where
+      go : (b : Bool) → P .japanese a ≡ b → (e : Bool) → P .japanese z ≡ e → b || alnum a ≡ true → allOf (labelChar P) m ≡ true → e || alnum z ≡ true
+          → b || (anyOf (P .japanese) m || e) ≡ true → G.JA-form P (a ∷ (m ++ (z ∷ [])))
+      go true p e q pa r pz s =
+          G.form-2 (ja-says P a .0 p) (all-star _ _ (label-says P) m r) (edge-says P z .0 (ap (λ (x : Bool). x || alnum z) q ∙ pz))
+      go false p true q pa r pz s = G.form-3 (alnum-says a .0 pa) (all-star _ _ (label-says P) m r) (ja-says P z .0 q)
+      go false p false q pa r pz s =
+          inside-form a z (alnum-says a .0 pa) (alnum-says z .0 pz) r (cut-at (P .japanese) m (sym (or-false (anyOf (P .japanese) m)) ∙ s))
+
+  -- ---- an exception string is a label of the three signs and ASCII with a middle dot
+
+  dot-exceptional : (c : ℕ) → middleDot c ≡ true → exceptional c ≡ true
+  unfolding exceptional exception
+  dot-exceptional c e = or-left (exception c) (asciiSet c) (or-right (eqb c 0x3006) _ (or-right (eqb c 0x30FC) (middleDot c) e))
+
+  not-ordinary : (c : ℕ) → exceptional c ≡ true → ordinary P c ≡ false
+  unfolding exceptional exception ordinary
+  not-ordinary c e = go (exception c) e
+    where
+      go : (b : Bool) → b || asciiSet c ≡ true → P .japanese c && not b ≡ false
+      go true q = and-false (P .japanese c)
+      go false q = rw (L .ascii c q)
+
+  or-ordinary : (c : ℕ) → labelChar P c ≡ true → ordinary P c ≡ false → exceptional c ≡ true
+  unfolding exceptional exception ordinary labelChar
+  or-ordinary c = go (P .japanese c) (exception c)
+    where
+      go : (j b : Bool) → j || asciiSet c ≡ true → j && not b ≡ false → b || asciiSet c ≡ true
+      go true true e n = refl
+      go true false e n = absurd (true≢false n)
+      go false true e n = refl
+      go false false e n = e
+
+  exception-bare : {l : List ℕ} → G.EXCEPTION-STRING l → bareDot P l ≡ true
+  unfolding bareDot allOf anyOf
+  exception-bare (G.dotted {c = c} {m = m} {n = n} r p s) =
+      let w : List ℕ = m ++ c ∷ n in
+      let e = dot-says c .1 p in
+      let all : allOf exceptional w ≡ true =
+      all-append exceptional m (c ∷ n) ∙ rw (star-all _ _ exceptional-says r, dot-exceptional c e, star-all _ _ exceptional-says s) in
+      let some : anyOf middleDot w ≡ true = any-append middleDot m (c ∷ n) ∙ or-right (anyOf middleDot m) _ (or-left (middleDot c) _ e) in
+      rw (some, all-none exceptional (ordinary P) not-ordinary w all)
+
+  cut-exception : {l : List ℕ} → Cut middleDot l → allOf exceptional l ≡ true → G.EXCEPTION-STRING l
+  unfolding allOf
+  cut-exception (cut m c n e) all =
+      let h = both (allOf exceptional m) (allOf exceptional (c ∷ n)) (sym (all-append exceptional m (c ∷ n)) ∙ all) in
+      let k = both (exceptional c) (allOf exceptional n) (h .1) in
+      G.dotted (all-star _ _ exceptional-says m (h .0)) (dot-says c .0 e) (all-star _ _ exceptional-says n (k .1))
+
+  bare-exception : (l : List ℕ) → allOf (labelChar P) l ≡ true → bareDot P l ≡ true → G.EXCEPTION-STRING l
+  unfolding bareDot
+  bare-exception l w e =
+      let h = both (anyOf middleDot l) (not (anyOf (ordinary P) l)) e in
+      cut-exception (cut-at middleDot l (h .0)) (all-but (labelChar P) (ordinary P) exceptional or-ordinary l w (not-true (anyOf (ordinary P) l) (h .1)))
+
+  -- ---- a Japanese label
+
+  some-filled : (l : List ℕ) → 1 ≤ length l → isEmpty l ≡ false
+  unfolding isEmpty
+  some-filled [] h = absurd (omega arith)
+  some-filled (x ∷ xs) h = refl
+
+  filled-some : (l : List ℕ) → isEmpty l ≡ false → 1 ≤ length l
+  unfolding isEmpty
+  filled-some [] e = absurd (true≢false e)
+  filled-some (x ∷ xs) e = omega arith
+
+  ja-sound : {l : List ℕ} → G.JA-label P l → Sound P l
+  unfolding labelRows isJapanese short long
+  ja-sound (G.ja-label {l = l} f lo hi x) =
+      let F = formed f in
+      record {
+        chars = F .frame .chars;
+        filled = some-filled l lo;
+        clear = (F .frame .no-edge, (rw (F .some-ja), (rw (F .some-ja, le-ltb 15 (length l) hi), (no-bare (bareDot P l) refl (F .frame .chars), tt))));
+      }
+    where
+      no-bare : (b : Bool) → bareDot P l ≡ b → allOf (labelChar P) l ≡ true → b ≡ false
+      no-bare true e w = absurd (x (bare-exception l w e))
+      no-bare false e w = refl
+
+  sound-ja : (l : List ℕ) → Sound P l → anyOf (P .japanese) l ≡ true → G.JA-label P l
+  unfolding labelRows isJapanese long
+  sound-ja l S e =
+      let hi : ltb 15 (length l) ≡ false = rw e at (S .clear .1 .1 .0) in
+      G.ja-label (form (ends l) (record { frame = record { chars = S .chars; no-edge = S .clear .0 }; some-ja = e }))
+      (filled-some l (S .filled))
+      (ltb-false 15 (length l) hi)
+      (λ x. clash (exception-bare x) (S .clear .1 .1 .1 .0))
+
+  -- ---- the two ways
+
+  pub label-sound : {l : List ℕ} → G.label P l → Sound P l
+  label-sound (G.an-ascii d) = ascii-sound d
+  label-sound (G.a-japanese d) = ja-sound d
+
+  pub sound-label : {l : List ℕ} → Sound P l → G.label P l
+  sound-label {l} S = go (anyOf (P .japanese) l) refl
+    where
+      go : (b : Bool) → anyOf (P .japanese) l ≡ b → G.label P l
+      go true e = G.a-japanese (sound-ja l S e)
+      go false e = G.an-ascii (sound-ascii (ends l) S e)

@@ -1,0 +1,109 @@
+-- The rules of a name: document 01's table, 'Numbers a call may answer', 2 to 12, a row each; the first that applies is given.
+use mathlib.Core.Bool.{Bool, true, false, not, _&&_, _||_}
+use mathlib.Core.List.{List, [], _∷_, _++_}
+use Prim.Native.Nat.{ℕ, _-_}
+use lib.Dec.{eqb, ltb}
+use lib.ListN.{length, getD}
+use Rattle.lists.specs.Tests.{pick, anyOf, firstOf, same}
+use Rattle.lists.specs.Rows.{Row, row, Answer, first}
+use Rattle.characters.specs.Characters.{hyphen}
+use Rattle.normal.specs.Normal.{normalForm, places}
+use Rattle.rules.specs.Labels.{period, labels}
+use Rattle.rules.specs.Permits.{Permits, labelChar, isEmpty}
+use Rattle.rules.specs.declared.Class.{Class}
+use Rattle.rules.specs.declared.Class.the-variants.{None, General, Prefecture}
+use Rattle.rules.specs.declared.Verdict.{Verdict}
+
+-- ---- characters
+
+-- neither period, ASCII set nor Japanese
+unfoldable pub unfit : Permits → ℕ → Bool
+unfit P c = not (period c || labelChar P c)
+
+unfoldable pub middleDot : ℕ → Bool
+middleDot c = eqb c 0x30FB
+
+-- a Japanese character other than 3006, 30FC and 30FB
+unfoldable pub ordinary : Permits → ℕ → Bool
+ordinary P c = P .japanese c && not (eqb c 0x3006 || (eqb c 0x30FC || middleDot c))
+
+-- ---- what is asked of a label
+
+-- a Japanese label holds at least one Japanese character; any other is an ASCII label
+unfoldable pub isJapanese : Permits → List ℕ → Bool
+isJapanese P l = anyOf (P .japanese) l
+
+unfoldable pub beginsWithHyphen : List ℕ → Bool
+beginsWithHyphen [] = false
+beginsWithHyphen (x ∷ xs) = hyphen x
+
+unfoldable pub endsWithHyphen : List ℕ → Bool
+endsWithHyphen [] = false
+endsWithHyphen (x ∷ []) = hyphen x
+endsWithHyphen (x ∷ y ∷ ys) = endsWithHyphen (y ∷ ys)
+
+unfoldable pub hyphenEdge : List ℕ → Bool
+hyphenEdge l = beginsWithHyphen l || endsWithHyphen l
+
+-- ASCII with fewer than the least
+unfoldable pub short : Permits → ℕ → List ℕ → Bool
+short P least l = not (isJapanese P l) && ltb (length l) least
+
+-- ASCII with more than 63, or Japanese with more than 15
+unfoldable pub long : Permits → List ℕ → Bool
+long P l = ltb (pick (isJapanese P l) 15 63) (length l)
+
+-- a middle dot, and no Japanese character other than the three
+unfoldable pub bareDot : Permits → List ℕ → Bool
+bareDot P l = anyOf middleDot l && not (anyOf (ordinary P) l)
+
+-- 7 to 10, of a label that must have at least so many characters where it is ASCII, with their place
+unfoldable pub labelRows : Permits → ℕ → List ℕ → ℕ → List Row
+labelRows P least l at =
+    row 7 (hyphenEdge l) at ∷
+    row 8 (short P least l) at ∷
+    row 9 (long P l) at ∷
+    row 10 (bareDot P l) at ∷
+    []
+
+-- ---- what is asked of a name
+
+unfoldable pub jp : List ℕ
+jp = 0x6A ∷ 0x70 ∷ []
+
+-- 5 to 12, of the labels of a normal form
+unfoldable pub nameRows : Permits → List (List ℕ) → List Row
+nameRows P ls =
+    row 5 (not (eqb (length ls) 2 || (P .three && eqb (length ls) 3))) 0 ∷
+    row 6 (anyOf isEmpty ls) (firstOf isEmpty ls) ∷
+    (labelRows P 3 (getD ls 0 []) 0 ++
+    row 11 (not (same (getD ls (length ls - 1) []) jp)) 0 ∷
+    row 12 (eqb (length ls) 3 && not (P .middle (getD ls 1 []))) 0 ∷
+    [])
+
+-- 2 to 12, of an application text
+unfoldable pub textRows : Permits → List ℕ → List Row
+textRows P text =
+    let form = normalForm text in
+    row 2 (eqb (length text) 0) 0 ∷
+    row 3 (ltb 256 (length text)) 256 ∷
+    row 4 (anyOf (unfit P) form) (getD (places text) (firstOf (unfit P) form) 0) ∷
+    nameRows P (labels form)
+
+-- ---- what is answered
+
+-- the class of an accepted name with these labels
+unfoldable pub classOf : List (List ℕ) → Class
+classOf ls = pick (eqb (length ls) 3) Prefecture General
+
+-- class is general-use or prefecture with 0, and none otherwise
+unfoldable pub verdict : Answer → List (List ℕ) → Verdict
+verdict a ls = record { number = a .number; place = a .place; class = pick (eqb (a .number) 0) (classOf ls) None }
+
+-- ONE set of rules: what is said of a text, given room
+unfoldable pub rules : Permits → List ℕ → Verdict
+rules P text = verdict (first (textRows P text)) (labels (normalForm text))
+
+-- accepted as a name of class k
+abbrev pub accepted : Class → Verdict
+accepted k = record { number = 0; place = 0; class = k }

@@ -1,0 +1,63 @@
+-- The starred names of document 01, 'Tried names', as one table under one statement.
+use mathlib.Core.Path.{_≡_, refl}
+use mathlib.Core.List.{List, [], _∷_}
+use Prim.Native.Nat.{ℕ}
+use Rattle.lists.specs.Tests.{within, allOf, anyOf, firstOf, elem, same}
+use Rattle.lists.specs.Rows.{first}
+use Rattle.characters.specs.Kanji.{kanji}
+use Rattle.characters.specs.Characters.{alnum, hyphen, asciiSet, hiragana, katakana, signs, japaneseBy, japanese}
+use Rattle.characters.specs.Replace.{ranges, rangeIn, halfKana, isHalf, replaceIn, replace}
+use Rattle.characters.specs.Compose.{voiced, repeats, halfVoiced, eitherKana, composed}
+use Rattle.normal.specs.Normal.{replacedFrom, compose, normalPlaced, normalForm, places}
+use Rattle.rules.specs.Labels.{period, onto, labels}
+use Rattle.rules.specs.Permits.{labelChar, isEmpty}
+use Rattle.rules.specs.Rules.{unfit, middleDot, ordinary, isJapanese, beginsWithHyphen, endsWithHyphen, hyphenEdge, short, long, bareDot, labelRows, jp, nameRows, textRows, classOf, verdict, rules, accepted}
+use Rattle.rules.specs.Prefectures.{prefectures}
+use Rattle.rules.specs.Editions.{isPrefecture, today}
+use Rattle.rules.specs.declared.Class.{Class}
+use Rattle.rules.specs.declared.Class.the-variants.{None, General, Prefecture}
+
+-- a text that is accepted, with its class and its normal form, or refused, with its number and its place
+pub data Case : Type 0 where
+  accepts : List ℕ → Class → List ℕ → Case
+  refuses : List ℕ → ℕ → ℕ → Case
+
+abbrev pub Holds : List Case → Type 0
+Holds [] = Unit {0}
+Holds (accepts text k form ∷ cs) = (rules today text ≡ accepted k) × (normalForm text ≡ form) × Holds cs
+Holds (refuses text n p ∷ cs) = (rules today text ≡ record { number = n; place = p; class = None }) × Holds cs
+
+abbrev dotJp : List ℕ
+dotJp = 0x2E ∷ 0x6A ∷ 0x70 ∷ []
+
+abbrev abcJp : List ℕ
+abcJp = 0x61 ∷ 0x62 ∷ 0x63 ∷ dotJp
+
+abbrev pub table : List Case
+table =
+    -- ABC.JP; abc 3002 FF2A FF30
+    accepts (0x41 ∷ 0x42 ∷ 0x43 ∷ 0x2E ∷ 0x4A ∷ 0x50 ∷ []) General abcJp ∷
+    accepts (0x61 ∷ 0x62 ∷ 0x63 ∷ 0x3002 ∷ 0xFF2A ∷ 0xFF30 ∷ []) General abcJp ∷
+    -- ab.jp; 3042 .jp
+    refuses (0x61 ∷ 0x62 ∷ dotJp) 8 0 ∷
+    accepts (0x3042 ∷ dotJp) General (0x3042 ∷ dotJp) ∷
+    -- FF76 FF9E .jp
+    accepts (0xFF76 ∷ 0xFF9E ∷ dotJp) General (0x30AC ∷ dotJp) ∷
+    -- 3046 309B .jp
+    refuses (0x3046 ∷ 0x309B ∷ dotJp) 4 1 ∷
+    -- 30FB .jp; 30FC .jp; 30FB 3005 .jp
+    refuses (0x30FB ∷ dotJp) 10 0 ∷
+    accepts (0x30FC ∷ dotJp) General (0x30FC ∷ dotJp) ∷
+    accepts (0x30FB ∷ 0x3005 ∷ dotJp) General (0x30FB ∷ 0x3005 ∷ dotJp) ∷
+    -- -3042 .jp; abc.jp. with a final period; jp
+    refuses (0x2D ∷ 0x3042 ∷ dotJp) 7 0 ∷
+    refuses (0x61 ∷ 0x62 ∷ 0x63 ∷ 0x2E ∷ 0x6A ∷ 0x70 ∷ 0x2E ∷ []) 6 2 ∷
+    refuses (0x6A ∷ 0x70 ∷ []) 5 0 ∷
+    -- abc.tokyo.jp; abc.tokio.jp
+    accepts (0x61 ∷ 0x62 ∷ 0x63 ∷ 0x2E ∷ 0x74 ∷ 0x6F ∷ 0x6B ∷ 0x79 ∷ 0x6F ∷ dotJp) Prefecture (0x61 ∷ 0x62 ∷ 0x63 ∷ 0x2E ∷ 0x74 ∷ 0x6F ∷ 0x6B ∷ 0x79 ∷ 0x6F ∷ dotJp) ∷
+    refuses (0x61 ∷ 0x62 ∷ 0x63 ∷ 0x2E ∷ 0x74 ∷ 0x6F ∷ 0x6B ∷ 0x69 ∷ 0x6F ∷ dotJp) 12 0 ∷
+    []
+
+pub tried : Holds table
+unfolding within allOf anyOf firstOf elem same first kanji alnum hyphen asciiSet hiragana katakana signs japaneseBy japanese ranges rangeIn halfKana isHalf replaceIn replace voiced repeats halfVoiced eitherKana composed replacedFrom compose normalPlaced normalForm places period onto labels labelChar isEmpty unfit middleDot ordinary isJapanese beginsWithHyphen endsWithHyphen hyphenEdge short long bareDot labelRows jp nameRows textRows classOf verdict rules prefectures isPrefecture today
+tried = (refl, refl, (refl, refl, (refl, (refl, refl, (refl, refl, (refl, (refl, (refl, refl, (refl, refl, (refl, (refl, (refl, (refl, refl, (refl, tt))))))))))))))

@@ -1,0 +1,26 @@
+// The rules of a name, as definitions and theorems: the registry's grammar, document 01's ordered table of refusals, the
+// second reader of labels, and that the three agree. Every call of the product is a thin layer over `rules` (specs/Rules).
+// It has no call of its own: only the types that the definitions and the calls share.
+
+// General-use or prefecture with number 0, and none otherwise.
+pub enum Class {
+    None,
+    General,
+    Prefecture,
+}
+
+// What the rules say of a text.
+pub struct Verdict {
+    pub number: u8,
+    pub place: usize,
+    pub class: Class,
+}
+
+// What the second reader has seen of a label: how many characters, and whether one is Japanese, the middle dot, a Japanese
+// character other than the three exceptions.
+pub struct Seen {
+    pub count: usize,
+    pub ja: bool,
+    pub dot: bool,
+    pub ordinary: bool,
+}
