@@ -8,11 +8,11 @@ use Prim.Native.Nat.{ℕ, _+_, _-_, _%_, _≤_}
 use native.Mathlib.Omega.{arith}
 use lib.ListN.{getD, List·getD-map}
 use Rattle.lists.specs.Tests.{within, allOf}
-use Rattle.lists.proofs.Laws.{in-range, outside}
+use Rattle.lists.proofs.Laws.{inside, in-range, outside}
 use Rattle.characters.specs.declared.Replacement.{Replacement}
 use Rattle.characters.specs.declared.Replacement.the-variants.{Letter, Digit, Hyphen, Separator, HalfKana, Mark, Other}
 use Rattle.characters.specs.Replace.{Range, range, ranges, rangeIn, classOf, halfKana, isHalf, replaceIn, replace}
-use Rattle.characters.proofs.Ranges.{class-in, done, _also_, by-range}
+use Rattle.characters.proofs.Ranges.{settled, class-in, done, _also_, by-range}
 
 abbrev pub byClass : Replacement → ℕ → ℕ
 byClass Letter c = 0x60 + c % 32
@@ -33,7 +33,7 @@ Lies HalfKana c = (0xFF65 ≤ c) × (c ≤ 0xFF9F)
 Lies Mark c = Unit {0}
 Lies Other c = Unit {0}
 
-pub record Fits (c : ℕ) (r : Range) : Type 0 where
+record Fits (c : ℕ) (r : Range) : Type 0 where
   pub told : replaceIn r c ≡ byClass (r .class) c
   pub lies : Lies (r .class) c
 
@@ -50,13 +50,17 @@ module _ (c : ℕ) where
       let i = in-range a (a + 9) c w in
       record { told = omega arith; lies = omega arith }
 
+  single : (k : Replacement) (s : ℕ) → isHalf k ≡ false → s ≡ byClass k c → Lies k c → (a : ℕ) → within a a c ≡ true → Fits c (range a a k s)
+  unfolding replaceIn
+  single k s n e l a w = let i = in-range a a c w in record { told = rw n (omega arith); lies = l }
+
   hyphen : (a : ℕ) → within a a c ≡ true → Fits c (range a a Hyphen 0x2D)
-  unfolding replaceIn isHalf
-  hyphen a w = let i = in-range a a c w in record { told = omega arith; lies = tt }
+  unfolding isHalf
+  hyphen = single Hyphen 0x2D refl refl tt
 
   separator : (a : ℕ) → within a a c ≡ true → Fits c (range a a Separator 0x2E)
-  unfolding replaceIn isHalf
-  separator a w = let i = in-range a a c w in record { told = omega arith; lies = tt }
+  unfolding isHalf
+  separator = single Separator 0x2E refl refl tt
 
   half-kana : within 0xFF65 0xFF9F c ≡ true → Fits c (range 0xFF65 0xFF9F HalfKana 0x30FB)
   unfolding replaceIn isHalf
@@ -67,17 +71,17 @@ module _ (c : ℕ) where
   mark w = let i = in-range 0x309B 0x309C c w in record { told = omega arith; lies = tt }
 
   other : Fits c (range c c Other c)
-  unfolding replaceIn isHalf
-  other = record { told = omega arith; lies = tt }
+  unfolding isHalf
+  other = single Other c refl refl tt c (inside c c c (omega arith) (omega arith))
 
-  pub fits : Fits c (rangeIn ranges c)
+  fits : Fits c (rangeIn ranges c)
   unfolding ranges
   fits =
       by-range (Fits c) c ranges
       (letter 0x41 refl also letter 0x61 refl also letter 0xFF21 refl also letter 0xFF41 refl also
       digit 0x30 refl also digit 0xFF10 refl also hyphen 0x2D also hyphen 0xFF0D also
       separator 0x2E also separator 0xFF0E also separator 0x3002 also separator 0xFF61 also half-kana also mark also done)
-      (λ e. other)
+      other
 
   -- for a class that is known
   by-class : (k : Replacement) → classOf c ≡ k → replace c ≡ byClass k c
@@ -106,18 +110,12 @@ half-entry : (k : ℕ) → replace (getD halfKana k 0) ≡ getD halfKana k 0
 unfolding replace replaceIn isHalf ranges rangeIn within
 half-entry k = sym (List·getD-map replace halfKana k 0) ∙ ap (λ (l : List ℕ). getD l k 0) half-kept
 
-module _ (c : ℕ) where
-  lower : 0x61 ≤ c → c ≤ 0x7A → replace c ≡ c
-  unfolding within allOf ranges rangeIn classOf
-  lower l h = by-class c Letter (sym (class-in 0x61 0x7A c refl l h)) ∙ omega arith
-
-  figure : 0x30 ≤ c → c ≤ 0x39 → replace c ≡ c
-  unfolding within allOf ranges rangeIn classOf
-  figure l h = by-class c Digit (sym (class-in 0x30 0x39 c refl l h)) ∙ omega arith
+in-region : (lo hi c : ℕ) → settled lo hi ranges ≡ true → lo ≤ c → c ≤ hi → replace c ≡ byClass (classOf lo) c
+in-region lo hi c t l h = by-class c (classOf lo) (sym (class-in lo hi c t l h))
 
 module _ (c : ℕ) where
   pub twice : replace (replace c) ≡ replace c
-  unfolding replace replaceIn isHalf ranges rangeIn within
+  unfolding replace replaceIn isHalf ranges rangeIn classOf within allOf
   twice = go (classOf c) refl
     where
       by : (v : ℕ) → replace c ≡ v → replace v ≡ v → replace (replace c) ≡ replace c
@@ -126,20 +124,20 @@ module _ (c : ℕ) where
       go : (k : Replacement) → classOf c ≡ k → replace (replace c) ≡ replace c
       go Letter e =
           let i = lies-in c Letter e in
-          by (0x60 + c % 32) (by-class c Letter e) (lower (0x60 + c % 32) (omega arith) (omega arith))
-      go Digit e = let i = lies-in c Digit e in by (0x30 + c % 16) (by-class c Digit e) (figure (0x30 + c % 16) (omega arith) (omega arith))
+          by (0x60 + c % 32) (by-class c Letter e) (in-region 0x61 0x7A (0x60 + c % 32) refl (omega arith) (omega arith) ∙ omega arith)
+      go Digit e =
+          let i = lies-in c Digit e in
+          by (0x30 + c % 16) (by-class c Digit e) (in-region 0x30 0x39 (0x30 + c % 16) refl (omega arith) (omega arith) ∙ omega arith)
       go Hyphen e = by 0x2D (by-class c Hyphen e) refl
       go Separator e = by 0x2E (by-class c Separator e) refl
-      go HalfKana e = by _ (by-class c HalfKana e) (half-entry (c - 0xFF65))
+      go HalfKana e = by (getD halfKana (c - 0xFF65) 0) (by-class c HalfKana e) (half-entry (c - 0xFF65))
       go Mark e = ap replace (by-class c Mark e)
       go Other e = ap replace (by-class c Other e)
 
   -- what is not replaced is no upper-case letter; so no replaced code point is one
   pub not-upper : replace c ≡ c → within 0x41 0x5A c ≡ false
   unfolding within allOf ranges rangeIn classOf
-  not-upper e =
-      outside 0x41 0x5A c
-      (λ l h. let w = by-class c Letter (sym (class-in 0x41 0x5A c refl l h)) in omega arith)
+  not-upper e = outside 0x41 0x5A c (λ l h. let w = in-region 0x41 0x5A c refl l h in omega arith)
 
 pub never-upper : (c : ℕ) → within 0x41 0x5A (replace c) ≡ false
 never-upper c = not-upper (replace c) (twice c)

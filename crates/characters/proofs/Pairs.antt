@@ -1,6 +1,6 @@
 -- What a base and a mark become, from the tables: each entry of a table passes a computed test, so each number in it does.
 -- Assumes nothing.
-use mathlib.Core.Path.{_≡_, refl, sym, ap, _∙_}
+use mathlib.Core.Path.{_≡_, refl, sym, _∙_}
 use mathlib.Core.Bool.{Bool, true, false, not, _&&_, _||_}
 use mathlib.Core.List.{List}
 use mathlib.Core.Logic.{_⊎_, inl, inr, ⊎-elim}
@@ -41,15 +41,16 @@ module _ (table : List ℕ) (w : katakanaRow table ≡ true) (b : ℕ) where
       ⊎-elim (λ h. rw (lt-ltb b 0x30A1 h, outside-row b (λ i j. omega arith)))
       (λ h. rw (le-ltb b 0x30A1 h, outside-row (b + 0x60) (λ i j. omega arith)) (sym (or-false (elem b table)))) (lt-or-le b 0x30A1)
 
-  -- what the code finds, k being b moved to the katakana row
-  module _ {k : ℕ} {r : Bool} (e : k ≡ pick (ltb b 0x30A1) (b + 0x60) b) (h : r ≡ elem k table) where
+  -- what the code finds: whether b, moved to the katakana row, is in the table
+  module _ {r : Bool} (h : r ≡ elem (pick (ltb b 0x30A1) (b + 0x60) b) table) where
     pub found : {t : Bool} → r ≡ t → eitherKana table b ≡ t
-    found g = sym (h ∙ ap (λ (x : ℕ). elem x table) e ∙ either-row) ∙ g
+    found g = sym (h ∙ either-row) ∙ g
 
     pub found-low : r ≡ true → b ≤ 0x3100
     found-low g =
-        let i = in-range 0x30A1 0x3100 k (in-table (within 0x30A1 0x3100) k table w (sym h ∙ g)) in
-        ⊎-elim (λ l. omega arith) (λ l. omega (arith, rw (le-ltb b 0x30A1 l) at e)) (lt-or-le b 0x30A1)
+        ⊎-elim (λ l. omega arith)
+        (λ l. in-range 0x30A1 0x3100 b (in-table (within 0x30A1 0x3100) b table w (rw (le-ltb b 0x30A1 l) at (sym h ∙ g))) .1)
+        (lt-or-le b 0x30A1)
 
 pub repeats-low : (b : ℕ) → elem b repeats ≡ true → b ≤ 0x30FD
 unfolding repeats allOf
@@ -58,7 +59,7 @@ repeats-low b e = leb-true b 0x30FD (in-table (λ (k : ℕ). leb k 0x30FD) b rep
 -- ---- what is composed
 
 -- a test that holds of every entry of the table, moved on by n, and of the same less 60 hex
-abbrev pub moved : (ℕ → Bool) → ℕ → List ℕ → Bool
+abbrev moved : (ℕ → Bool) → ℕ → List ℕ → Bool
 moved f n table = allOf (λ (k : ℕ). f (k + n) && f (k - 0x60 + n)) table
 
 module _ (f : ℕ → Bool) where
@@ -76,7 +77,7 @@ module _ (f : ℕ → Bool) where
           rw back at (entry (b + 0x60) h .1)
 
   -- a test that every pair's one character passes, by computation, and 0
-  pub of-composed : (b m : ℕ) → f 0 ≡ true → f 0x30F4 ≡ true → moved f 1 voiced ≡ true → allOf (λ (k : ℕ). f (k + 1)) repeats ≡ true
+  of-composed : (b m : ℕ) → f 0 ≡ true → f 0x30F4 ≡ true → moved f 1 voiced ≡ true → allOf (λ (k : ℕ). f (k + 1)) repeats ≡ true
       → moved f 2 halfVoiced ≡ true → f (composed b m) ≡ true
   unfolding composed
   of-composed b m z u v r h = mark (eqb m 0x309B) (eqb m 0x309C)

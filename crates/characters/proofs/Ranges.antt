@@ -77,12 +77,11 @@ module _ (P : Range → Type 0) (c : ℕ) where
   abbrev Holding : Range → Type 0
   Holding r = within (r .from) (r .to) c ≡ true → P r
 
-  pub by-range : (rs : List Range) → Each Holding rs → (rangeIn rs c ≡ range c c Other c → P (range c c Other c)) → P (rangeIn rs c)
+  pub by-range : (rs : List Range) → Each Holding rs → P (range c c Other c) → P (rangeIn rs c)
   unfolding rangeIn
-  by-range [] done o = o refl
-  by-range (r ∷ rs) (p also ps) o = go (within (r .from) (r .to) c) refl o (by-range rs ps)
+  by-range [] done o = o
+  by-range (r ∷ rs) (p also ps) o = go (within (r .from) (r .to) c) refl (by-range rs ps o)
     where
-      go : (b : Bool) → within (r .from) (r .to) c ≡ b → (pick b r (rangeIn rs c) ≡ range c c Other c → P (range c c Other c))
-          → ((rangeIn rs c ≡ range c c Other c → P (range c c Other c)) → P (rangeIn rs c)) → P (pick b r (rangeIn rs c))
-      go true w o on = p w
-      go false w o on = on o
+      go : (b : Bool) → within (r .from) (r .to) c ≡ b → P (rangeIn rs c) → P (pick b r (rangeIn rs c))
+      go true w on = p w
+      go false w on = on

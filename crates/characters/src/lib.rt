@@ -229,17 +229,20 @@ const REPEATS: [u32; 2] = [0x309D, 0x30FD];
 
 const HALF_VOICED: [u32; 5] = [0x30CF, 0x30D2, 0x30D5, 0x30D8, 0x30DB];
 
-// What stands before the katakana is moved to their row, so that one table serves both kana.
-fn katakana_row(b: u32) -> u32
-    ensures { λ r. ⌜ r ≡ pick (ltb b 0x30A1) (b + 0x60) b ⌝ }
+// Is b in a table of the katakana row, or what stands as far before them in the hiragana?
+fn of_either_kana(table: &[u32], b: u32) -> bool
+    ensures { λ r. ⌜ r ≡ elem (pick (ltb b 0x30A1) (b + 0x60) b) (now (table .entry)) ⌝ }
 {
-    if b < 0x30A1 { b + 0x60 } else { b }
+    if b < 0x30A1 {
+        return lists::holds(table, b + 0x60);
+    }
+    lists::holds(table, b)
 }
 
 fn voice(b: u32) -> u32
     ensures { λ r. ⌜ r ≡ composed b 0x309B ⌝ }
 {
-    if lists::holds(&VOICED, katakana_row(b)) {
+    if of_either_kana(&VOICED, b) {
         return b + 1;
     }
     if lists::holds(&REPEATS, b) {
@@ -254,7 +257,7 @@ fn voice(b: u32) -> u32
 fn half_voice(b: u32) -> u32
     ensures { λ r. ⌜ r ≡ composed b 0x309C ⌝ }
 {
-    if lists::holds(&HALF_VOICED, katakana_row(b)) {
+    if of_either_kana(&HALF_VOICED, b) {
         return b + 2;
     }
     0

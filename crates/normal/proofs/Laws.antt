@@ -17,7 +17,7 @@ use Rattle.normal.proofs.Plain.{joinAll, plain, join-stays, by-pair, jo
 
 -- ---- the length
 
-pub record Sized (n : ℕ) (l : List ℕ) : Type 0 where
+record Sized (n : ℕ) (l : List ℕ) : Type 0 where
   pub no-more : length l ≤ n
   pub half : n ≤ 2 * length l
 

@@ -19,17 +19,17 @@ use Rattle.normal.specs.Calls.{Wrote}
 -- ---- one step of the composition
 
 module _ (b m : Placed) (rest : List Placed) where
-  pub stays : composed (b .code) (m .code) ≡ 0 → compose (b ∷ m ∷ rest) ≡ b ∷ compose (m ∷ rest)
+  stays : composed (b .code) (m .code) ≡ 0 → compose (b ∷ m ∷ rest) ≡ b ∷ compose (m ∷ rest)
   unfolding compose
   stays e = simp (eq-eqb _ _ e)
 
-  pub joins : (composed (b .code) (m .code) ≡ 0 → ⊥)
+  joins : (composed (b .code) (m .code) ≡ 0 → ⊥)
       → compose (b ∷ m ∷ rest) ≡ placed (composed (b .code) (m .code)) (b .began) ∷ compose rest
   unfolding compose
   joins e = simp (ne-eqb _ _ e)
 
 -- what is no base stays, whatever follows
-pub baseless : (b : Placed) (rest : List Placed) → ((m : ℕ) → composed (b .code) m ≡ 0) → compose (b ∷ rest) ≡ b ∷ compose rest
+baseless : (b : Placed) (rest : List Placed) → ((m : ℕ) → composed (b .code) m ≡ 0) → compose (b ∷ rest) ≡ b ∷ compose rest
 unfolding compose
 baseless b [] n = refl
 baseless b (m ∷ rest) n = stays b m rest (n (m .code))
@@ -39,13 +39,13 @@ baseless b (m ∷ rest) n = stays b m rest (n (m .code))
 abbrev pub pending : ℕ → ℕ → ℕ → List ℕ → List Placed
 pending last start i text = compose (placed last start ∷ replacedFrom i (drop i text))
 
-pub begins : (text : List ℕ) (x : ℕ) → 0 < length text → x ≡ replace (getD text 0 0) → pending x 0 1 text ≡ normalPlaced text
+begins : (text : List ℕ) (x : ℕ) → 0 < length text → x ≡ replace (getD text 0 0) → pending x 0 1 text ≡ normalPlaced text
 unfolding normalPlaced replacedFrom
 begins [] x h e = absurd (omega arith)
 begins (y ∷ ys) x h e = rw e
 
 module _ (text : List ℕ) (last start i : ℕ) where
-  pub ends : length text ≤ i → pending last start i text ≡ placed last start ∷ []
+  ends : length text ≤ i → pending last start i text ≡ placed last start ∷ []
   unfolding compose replacedFrom
   ends h = rw (drop-of-length-le text h)
 
@@ -55,10 +55,10 @@ module _ (text : List ℕ) (last start i : ℕ) where
     unfolding replacedFrom
     next = rw (ex, add-one, drop-cons text i 0)
 
-    pub pending-stays : composed last x ≡ 0 → pending last start i text ≡ placed last start ∷ pending x i (i + 1) text
+    pending-stays : composed last x ≡ 0 → pending last start i text ≡ placed last start ∷ pending x i (i + 1) text
     pending-stays e = next ∙ stays (placed last start) (placed x i) _ e
 
-    pub pending-joins : (composed last x ≡ 0 → ⊥) → pending last start i text ≡ pending (composed last x) start (i + 1) text
+    pending-joins : (composed last x ≡ 0 → ⊥) → pending last start i text ≡ pending (composed last x) start (i + 1) text
     pending-joins e =
         next ∙ joins (placed last start) (placed x i) _ e
         ∙ sym (baseless (placed (composed last x) start) (replacedFrom (i + 1) (drop (i + 1) text)) (no-base last x))
@@ -134,7 +134,7 @@ module _ {text out₀ out : List ℕ} {last n i : ℕ} (k : Kept text out₀ out
 
 -- ---- the walk that looks for the k-th place
 
-abbrev pub begun : List Placed → List ℕ
+abbrev begun : List Placed → List ℕ
 begun ps = map (λ (p : Placed). p .began) ps
 
 pub record Walked (text : List ℕ) (k last start n i : ℕ) : Type 0 where

@@ -34,13 +34,14 @@ fn fill(text: &[u32], out: &mut [u32]) -> usize
     let mut n = 0;
     let mut i = 1;
     while i < text.len() {
-        let c = characters::replaced(text[i]);
-        let one = characters::joined(last, c);
+        let raw = text[i];
+        let next = characters::replaced(raw);
+        let one = characters::joined(last, next);
         i += 1;
         if one == 0 {
             out[n] = last;
             n += 1;
-            last = c;
+            last = next;
         } else {
             last = one;
         }

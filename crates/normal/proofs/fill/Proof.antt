@@ -24,11 +24,11 @@ replaced-requires c κs = search needs
 loop-holds : tie.Need-loop-holds Inv-loop μ-loop
 loop-holds c = fill-begins _ _ _ (omega arith) (c .replaced .ensures)
 
-mul-replaced : tie.Need-mul-replaced Inv-loop μ-loop
-mul-replaced c = search needs
+mul-raw : tie.Need-mul-raw Inv-loop μ-loop
+mul-raw c = search needs
 
-shared-slice-read-replaced-2 : tie.Need-shared-slice-read-replaced-2 Inv-loop μ-loop
-shared-slice-read-replaced-2 c = search needs
+shared-slice-read-raw : tie.Need-shared-slice-read-raw Inv-loop μ-loop
+shared-slice-read-raw c = search needs
 
 replaced-requires-2 : tie.Need-replaced-requires-2 Inv-loop μ-loop
 replaced-requires-2 c κs = search needs
@@ -84,8 +84,8 @@ fill-spec =
     shared-slice-read-replaced
     replaced-requires
     loop-holds
-    mul-replaced
-    shared-slice-read-replaced-2
+    mul-raw
+    shared-slice-read-raw
     replaced-requires-2
     joined-requires
     add-i
