@@ -1,5 +1,6 @@
 pub mod Ranges
 pub mod Classes
+pub mod Bounds
 pub mod Lent
 pub mod Pairs
 pub mod Count

@@ -1,7 +1,7 @@
 -- What a base and a mark become, from the tables: each entry of a table passes a computed test, so each number in it does.
 -- Assumes nothing.
 use mathlib.Core.Path.{_≡_, refl, sym, _∙_}
-use mathlib.Core.Bool.{Bool, true, false, not, _&&_, _||_}
+use mathlib.Core.Bool.{Bool, true, false, not, _&&_, _||_, or-false}
 use mathlib.Core.List.{List}
 use mathlib.Core.Logic.{_⊎_, inl, inr, ⊎-elim}
 use Prim.Native.Nat.{ℕ, _+_, _-_, _≤_}
@@ -26,10 +26,6 @@ absent f c l w n = go (elem c l) refl
 -- every entry is of the katakana row
 abbrev pub katakanaRow : List ℕ → Bool
 katakanaRow table = allOf (within 0x30A1 0x3100) table
-
-pub or-false : (a : Bool) → a || false ≡ a
-or-false true = refl
-or-false false = refl
 
 module _ (table : List ℕ) (w : katakanaRow table ≡ true) (b : ℕ) where
   outside-row : (c : ℕ) → (0x30A1 ≤ c → c ≤ 0x3100 → ⊥) → elem c table ≡ false

@@ -1,5 +1,5 @@
 -- Which code point is what: document 01, 'Characters'. A code point is any 32-bit number.
-use mathlib.Core.Bool.{Bool, _||_}
+use mathlib.Core.Bool.{Bool, _&&_, _||_}
 use mathlib.Core.List.{List, [], _∷_}
 use Prim.Native.Nat.{ℕ}
 use lib.Dec.{eqb}
@@ -34,6 +34,9 @@ japaneseBy isKanji c = hiragana c || (katakana c || (elem c signs || isKanji c))
 unfoldable pub japanese : ℕ → Bool
 japanese c = japaneseBy (λ x. elem x kanji) c
 
--- the same, of a table that is lent; of the kanji themselves it is `japanese` (proofs/Lent)
+-- the same, of a table that is lent for the kanji, which stand from 4E00 to 9FA0; of the kanji themselves it is `japanese` (proofs/Lent)
+unfoldable pub kanjiWith : List ℕ → ℕ → Bool
+kanjiWith table c = within 0x4E00 0x9FA0 c && halving c table
+
 unfoldable pub japaneseWith : List ℕ → ℕ → Bool
-japaneseWith table c = japaneseBy (λ x. halving x table) c
+japaneseWith table c = japaneseBy (kanjiWith table) c

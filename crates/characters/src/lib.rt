@@ -9,7 +9,7 @@ ghost use Prim.Native.Nat.{_+_, _<_};
 ghost use lib.Dec.{ltb};
 ghost use lib.ListN.{getD};
 ghost use Rattle.lists.specs.Tests.{pick, within, elem};
-ghost use Rattle.characters.specs.Characters.{alnum, asciiSet, signs, japanese, japaneseWith};
+ghost use Rattle.characters.specs.Characters.{alnum, asciiSet, signs, japanese, kanjiWith, japaneseWith};
 ghost use Rattle.characters.specs.Replace.{halfKana, classOf, replace};
 ghost use Rattle.characters.specs.Compose.{composed};
 
@@ -61,17 +61,30 @@ fn is_sign(c: u32) -> bool
     lists::holds(&SIGNS, c)
 }
 
-// A Japanese character, by a lent table of kanji? The signs come last: they are the rarest.
+// A kanji, by a lent table? What stands outside their stretch needs no search.
+fn is_kanji(kanji: &[u32], c: u32) -> bool
+    ensures { λ r. ⌜ r ≡ kanjiWith (now (kanji .entry)) c ⌝ }
+{
+    if between(0x4E00, 0x9FA0, c) {
+        return lists::finds(kanji, c);
+    }
+    false
+}
+
+// A Japanese character, by a lent table of kanji? Below 3005 there is none; the signs come last, being the rarest.
 pub fn is_japanese(kanji: &[u32], c: u32) -> bool
     ensures { λ r. ⌜ r ≡ japaneseWith (now (kanji .entry)) c ⌝ }
 {
+    if c < 0x3005 {
+        return false;
+    }
     if between(0x3041, 0x3093, c) {
         return true;
     }
     if between(0x30A1, 0x30F6, c) {
         return true;
     }
-    if lists::finds(kanji, c) {
+    if is_kanji(kanji, c) {
         return true;
     }
     is_sign(c)

@@ -10,11 +10,11 @@ use lib.Dec.{leb}
 use lib.ListN.{length}
 use borrow.Author.Tests.{leb-true, not-true}
 use Rattle.lists.specs.Tests.{within, allOf, anyOf, elem, same}
-use Rattle.lists.specs.Halving.{halving}
-use Rattle.lists.proofs.Laws.{both, outside, in-table, all-append, same-is}
+use Rattle.lists.proofs.Laws.{both, all-append, same-is}
 use Rattle.characters.specs.Kanji.{kanji}
+use Rattle.characters.proofs.Bounds.{with-below}
 use Rattle.characters.proofs.Lent as Lent
-use Rattle.characters.specs.Characters.{alnum, hyphen, asciiSet, hiragana, katakana, signs, japaneseBy, japanese, japaneseWith}
+use Rattle.characters.specs.Characters.{alnum, hyphen, asciiSet, hiragana, katakana, signs, japaneseBy, japanese}
 use Rattle.rules.specs.Permits.{Permits, Laws, labelChar, isEmpty}
 use Rattle.rules.specs.Prefectures.{prefectures}
 use Rattle.rules.specs.Editions.{isPrefecture, today, todayWith}
@@ -45,59 +45,27 @@ all-short : allOf (λ (l : List ℕ). leb (length l) 60) prefectures ≡ true
 unfolding allOf prefectures
 all-short = refl
 
--- ---- below 3005 there is no Japanese character, if there is no kanji
+-- ---- the laws
 
-none-below : (c : ℕ) (l : List ℕ) → allOf (leb 0x3005) l ≡ true → c < 0x3005 → elem c l ≡ false
-none-below c l w h = go (elem c l) refl
-  where
-    go : (b : Bool) → elem c l ≡ b → b ≡ false
-    go true p = absurd (omega (arith, leb-true 0x3005 c (in-table (leb 0x3005) c l w p)))
-    go false p = refl
-
-signs-above : allOf (leb 0x3005) signs ≡ true
-unfolding allOf signs
-signs-above = refl
-
-kanji-above : allOf (leb 0x3005) kanji ≡ true
-unfolding allOf kanji
-kanji-above = refl
-
--- ---- the laws, over which code points are kanji
-
-module _ (isKanji : ℕ → Bool) (none : (c : ℕ) → c < 0x3005 → isKanji c ≡ false) where
-  below : (c : ℕ) → c < 0x3005 → japaneseBy isKanji c ≡ false
-  unfolding japaneseBy hiragana katakana
-  below c h =
-      rw (outside 0x3041 0x3093 c (λ p q. omega arith), outside 0x30A1 0x30F6 c (λ p q. omega arith), none-below c signs signs-above h, none c h)
-
-  abbrev edition : Permits
-  edition = record { japanese = japaneseBy isKanji; middle = isPrefecture; three = true }
-
-  laws : allOf (allOf (labelChar edition)) prefectures ≡ true → Laws edition
-  laws w = record {
-    ascii = λ c e. below c (let h = ascii-range c e in omega arith);
-    dot = below 0x2E (omega arith);
-    middle-chars = λ l e. of-prefecture (allOf (labelChar edition)) l w e;
-    middle-filled = λ l e. not-true (isEmpty l) (of-prefecture (λ (m : List ℕ). not (isEmpty m)) l all-filled e);
-    middle-three = λ l e. refl;
-    middle-short = λ l e. leb-true (length l) 60 (of-prefecture (λ (m : List ℕ). leb (length m) 60) l all-short e);
-  }
-
--- ---- the edition in force, and the same of a table that is lent
+below : (c : ℕ) → c < 0x3005 → japanese c ≡ false
+below c h = sym (Lent.lent c) ∙ with-below kanji c h
 
 all-held : allOf (allOf (labelChar today)) prefectures ≡ true
 unfolding allOf anyOf elem within labelChar asciiSet alnum hyphen hiragana katakana signs japaneseBy japanese kanji prefectures today
 all-held = refl
 
 pub today-laws : Laws today
-unfolding today japanese
-today-laws = laws (λ (c : ℕ). elem c kanji) (λ c h. none-below c kanji kanji-above h) all-held
+unfolding today
+today-laws = record {
+  ascii = λ c e. below c (let h = ascii-range c e in omega arith);
+  dot = below 0x2E (omega arith);
+  middle-chars = λ l e. of-prefecture (allOf (labelChar today)) l all-held e;
+  middle-filled = λ l e. not-true (isEmpty l) (of-prefecture (λ (m : List ℕ). not (isEmpty m)) l all-filled e);
+  middle-three = λ l e. refl;
+  middle-short = λ l e. leb-true (length l) 60 (of-prefecture (λ (m : List ℕ). leb (length m) 60) l all-short e);
+}
 
--- any table that has none below 3005, and the characters of the prefecture labels
-pub with-laws : (table : List ℕ) → ((c : ℕ) → c < 0x3005 → halving c table ≡ false) → allOf (allOf (labelChar (todayWith table))) prefectures ≡ true
-    → Laws (todayWith table)
-unfolding todayWith japaneseWith
-with-laws table none w = laws (λ (c : ℕ). halving c table) none w
+-- ---- the kanji lent
 
 pub lent : todayWith kanji ≡ today
 unfolding today todayWith

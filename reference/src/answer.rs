@@ -1,0 +1,52 @@
+//! What a call answers.
+
+/// The class of an accepted name.
+#[derive(Clone, Copy, Debug, PartialEq, Eq)]
+pub enum Class {
+    GeneralUse,
+    Prefecture,
+}
+
+impl Class {
+    /// The letter used in print: G, P, or - for none.
+    pub fn letter(class: Option<Class>) -> char {
+        match class {
+            Some(Class::GeneralUse) => 'G',
+            Some(Class::Prefecture) => 'P',
+            None => '-',
+        }
+    }
+}
+
+/// A refusal: its number (1 to 16) and its place.
+#[derive(Clone, Copy, Debug, PartialEq, Eq)]
+pub struct Refusal {
+    pub number: u8,
+    pub place: usize,
+}
+
+impl Refusal {
+    pub fn at(number: u8, place: usize) -> Refusal {
+        Refusal { number, place }
+    }
+
+    /// A refusal whose place is always 0.
+    pub fn plain(number: u8) -> Refusal {
+        Refusal::at(number, 0)
+    }
+}
+
+/// The answer of a call that has a lent buffer.
+#[derive(Clone, Copy, Debug, PartialEq, Eq)]
+pub struct Answer {
+    pub number: u8,
+    pub place: usize,
+    pub class: Option<Class>,
+    pub length: usize,
+}
+
+impl From<Refusal> for Answer {
+    fn from(refusal: Refusal) -> Answer {
+        Answer { number: refusal.number, place: refusal.place, class: None, length: 0 }
+    }
+}

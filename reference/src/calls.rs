@@ -1,0 +1,53 @@
+//! The calls with lent buffers. A refused call leaves its buffer untouched;
+//! an accepted one writes its start alone.
+
+use crate::answer::{Answer, Class, Refusal};
+use crate::coder;
+use crate::name;
+use crate::normal;
+
+/// What a call would write, and the class where it gives one.
+type Outcome<T> = Result<(Vec<T>, Option<Class>), Refusal>;
+
+/// Refusal 1, then the call's own outcome.
+fn lend<T: Copy>(buffer: &mut [T], room: usize, outcome: impl FnOnce() -> Outcome<T>) -> Answer {
+    if buffer.len() < room {
+        return Refusal::plain(1).into();
+    }
+    match outcome() {
+        Err(refusal) => refusal.into(),
+        Ok((written, class)) => {
+            buffer[..written.len()].copy_from_slice(&written);
+            Answer { number: 0, place: 0, class, length: written.len() }
+        }
+    }
+}
+
+pub fn normal_form(text: &[u32], buffer: &mut [u32]) -> Answer {
+    lend(buffer, 256, || {
+        name::check_length(text)?;
+        Ok((normal::normal_form(text), None))
+    })
+}
+
+pub fn check(text: &[u32], buffer: &mut [u32]) -> Answer {
+    lend(buffer, 256, || {
+        let accepted = name::check(text)?;
+        Ok((accepted.normal, Some(accepted.class)))
+    })
+}
+
+pub fn ascii_form(text: &[u32], buffer: &mut [u8]) -> Answer {
+    lend(buffer, 192, || {
+        let (form, class) = name::ascii_form(text)?;
+        Ok((form.into_bytes(), Some(class)))
+    })
+}
+
+pub fn encode_label(label: &[u32], buffer: &mut [u8]) -> Answer {
+    lend(buffer, 63, || Ok((coder::encode(label)?.into_bytes(), None)))
+}
+
+pub fn decode_label(octets: &[u8], buffer: &mut [u32]) -> Answer {
+    lend(buffer, 63, || Ok((coder::decode(octets)?, None)))
+}

@@ -1,0 +1,101 @@
+//! Document 01's tried names and the errors its rules invite.
+
+use super::CaseFile;
+use crate::points;
+
+/// A tried name: the text, the number, the place, the class's letter and the
+/// normal form (empty where it is refused).
+pub type Tried = (String, u8, usize, char, String);
+
+fn row(text: &str, number: u8, place: usize, class: char, normal: &str) -> Tried {
+    (text.to_string(), number, place, class, normal.to_string())
+}
+
+/// The tried names, starred and not.
+pub fn names() -> Vec<Tried> {
+    let a = |times: usize| "a".repeat(times);
+    let hiragana = |times: usize| "\u{3042}".repeat(times);
+    let taken = |name: String| (name.clone(), 0, 0, 'G', name);
+    vec![
+        row("ABC.JP", 0, 0, 'G', "abc.jp"),
+        row("abc\u{3002}\u{FF2A}\u{FF30}", 0, 0, 'G', "abc.jp"),
+        row("ab.jp", 8, 0, '-', ""),
+        taken("\u{3042}.jp".to_string()),
+        row("\u{FF76}\u{FF9E}.jp", 0, 0, 'G', "\u{30AC}.jp"),
+        row("\u{3046}\u{309B}.jp", 4, 1, '-', ""),
+        row("\u{30FB}.jp", 10, 0, '-', ""),
+        taken("\u{30FC}.jp".to_string()),
+        taken("\u{30FB}\u{3005}.jp".to_string()),
+        row("-\u{3042}.jp", 7, 0, '-', ""),
+        row("abc.jp.", 6, 2, '-', ""),
+        row("jp", 5, 0, '-', ""),
+        row("abc.tokyo.jp", 0, 0, 'P', "abc.tokyo.jp"),
+        row("abc.tokio.jp", 12, 0, '-', ""),
+        row("abc.com", 11, 0, '-', ""),
+        taken(a(63) + ".jp"),
+        row(&(a(64) + ".jp"), 9, 0, '-', ""),
+        taken(hiragana(15) + ".jp"),
+        row(&(hiragana(16) + ".jp"), 9, 0, '-', ""),
+        row(&a(256), 5, 0, '-', ""),
+        row(&a(257), 3, 256, '-', ""),
+    ]
+}
+
+/// Errors the rules invite, and their neighbours: a composition is not made
+/// across a separator or a hyphen.
+const ACROSS: [&str; 4] = [
+    "\u{30AB}.\u{309B}jp", "\u{30AB}\u{3002}\u{309B}", "\u{FF76}\u{FF61}\u{FF9E}.jp", "\u{30AB}-\u{309B}.jp",
+];
+
+/// 30CF is not composed twice.
+const TWICE: [&str; 7] = [
+    "\u{30CF}\u{309B}\u{309B}.jp", "\u{30CF}\u{309B}\u{309C}.jp", "\u{30CF}\u{309C}\u{309B}.jp",
+    "\u{30CF}\u{309C}\u{309C}.jp", "\u{30CF}\u{30CF}\u{309C}\u{309B}.jp", "\u{30D0}\u{309B}.jp",
+    "\u{30D1}\u{FF9F}.jp",
+];
+
+/// Letters go to lower case before the label is encoded.
+const LOWERED: [&str; 3] = ["A\u{3042}.jp", "\u{3042}BC\u{FF24}.JP", "\u{FF21}\u{3042}\u{FF3A}.TOKYO.jp"];
+
+/// The middle dot alone brings the rule in.
+const DOTTED: [&str; 12] = [
+    "\u{30FC}.jp", "\u{3006}.jp", "\u{30FC}\u{3006}a-b.jp", "\u{30FC}\u{30FB}.jp",
+    "\u{3006}\u{30FB}\u{30FC}.jp", "a\u{30FB}b.jp", "a\u{30FB}-\u{30FC}b.jp", "a\u{30FB}\u{4EDD}b.jp",
+    "\u{30FB}\u{3007}.jp", "\u{30FB}\u{30FD}.jp", "\u{FF65}.jp", "\u{FF65}\u{FF71}.jp",
+];
+
+/// Three characters are not asked of "jp", nor of any last label.
+const SHORT_LAST: [&str; 11] = [
+    "abc.JP", "abc.j", "abc.jpn", "abc.pj", "abc.-jp", "abc.jp-", "abc.\u{3042}", "abc.tokyo.j",
+    "abc.tokyo.tokyo", "jp.jp", "jpn.jp",
+];
+
+/// Fifteen are counted after composition.
+fn counted_after_composition() -> Vec<String> {
+    let half = |times: usize| "\u{FF76}\u{FF9E}".repeat(times);
+    let wide_jp = "\u{FF61}\u{FF4A}\u{FF50}";
+    vec![
+        half(15) + ".jp",
+        half(16) + ".jp",
+        half(15) + "\u{30AB}.jp",
+        "\u{FF8A}\u{FF9F}".repeat(15) + wide_jp,
+    ]
+}
+
+/// Each name by every call, with the live check on each of its beginnings.
+pub fn add(file: &mut CaseFile) {
+    let tried = names().into_iter().map(|name| name.0);
+    let fixed = [&ACROSS[..], &TWICE, &LOWERED, &DOTTED, &SHORT_LAST].concat();
+    let invited = fixed.into_iter().map(String::from).chain(counted_after_composition());
+    for text in tried.chain(invited) {
+        let text = points(&text);
+        file.everything(&text);
+        file.add('S', 0, &text);
+        for end in 0..text.len().min(20) {
+            file.add('L', 0, &text[..end]);
+        }
+    }
+    file.label(&points("\u{3042}"));
+    file.label(&points(&"\u{3042}".repeat(63)));
+    file.batch("a1\tABC.JP\na2\tab.jp\na3\t\u{3042}.tokyo.jp\n".as_bytes());
+}

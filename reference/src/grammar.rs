@@ -1,0 +1,130 @@
+//! Labels and names read by the grammar of document 004. Nothing here knows
+//! the numbered rules: the tests hold the two against each other.
+
+use crate::answer::Class;
+use crate::chars::{is_japanese, is_letter_or_digit, HYPHEN, MIDDLE_DOT};
+use crate::name::is_prefecture_label;
+use crate::normal::labels;
+use crate::points;
+
+/// What the second reader has learned of the label so far.
+#[derive(Default)]
+struct Seen {
+    count: usize,
+    japanese: bool,
+    middle_dot: bool,
+    beyond_exceptions: bool,
+}
+
+impl Seen {
+    fn note(&mut self, code: u32) {
+        self.count += 1;
+        if is_japanese(code) {
+            self.japanese = true;
+            self.middle_dot |= code == MIDDLE_DOT;
+            self.beyond_exceptions |= ![0x3006, 0x30FC, MIDDLE_DOT].contains(&code);
+        }
+    }
+
+    /// The lengths and the middle dot, judged at the label's end.
+    fn may_end(&self) -> bool {
+        if self.japanese {
+            self.count <= 15 && (self.beyond_exceptions || !self.middle_dot)
+        } else {
+            (3..=63).contains(&self.count)
+        }
+    }
+}
+
+/// Where the second reader stands in the label.
+enum Standing {
+    AtStart,
+    AfterCharacter,
+    AfterHyphen,
+}
+
+/// The second reader of labels: a machine that stands after a character or
+/// after a hyphen.
+pub fn second_reader(label: &[u32]) -> bool {
+    let mut seen = Seen::default();
+    let mut standing = Standing::AtStart;
+    for code in label {
+        let character = is_letter_or_digit(*code) || is_japanese(*code);
+        standing = match standing {
+            _ if character => Standing::AfterCharacter,
+            Standing::AfterCharacter | Standing::AfterHyphen if *code == HYPHEN => Standing::AfterHyphen,
+            _ => return false,
+        };
+        seen.note(*code);
+    }
+    matches!(standing, Standing::AfterCharacter) && seen.may_end()
+}
+
+/// Spells a label in letters for the grammar's kinds: a ALNUM, - hyphen,
+/// m MIDDLE-DOT, x another EXCEPTION-char, j another JA-char, ? none.
+fn spell(label: &[u32]) -> String {
+    let kind = |code: &u32| match *code {
+        HYPHEN => '-',
+        MIDDLE_DOT => 'm',
+        0x3006 | 0x30FC => 'x',
+        c if is_letter_or_digit(c) => 'a',
+        c if is_japanese(c) => 'j',
+        _ => '?',
+    };
+    label.iter().map(kind).collect()
+}
+
+fn all_of(spelled: &str, kinds: &str) -> bool {
+    spelled.chars().all(|kind| kinds.contains(kind))
+}
+
+/// The inside of a spelled label whose ends are of the kinds given.
+fn between<'a>(spelled: &'a str, first: &str, last: &str) -> Option<&'a str> {
+    let inner = spelled.get(1..spelled.len().checked_sub(1)?)?;
+    let fits = first.contains(&spelled[..1]) && last.contains(&spelled[spelled.len() - 1..]);
+    fits.then_some(inner)
+}
+
+fn is_ascii_label(spelled: &str) -> bool {
+    between(spelled, "a", "a").is_some_and(|inner| (1..=61).contains(&inner.len()) && all_of(inner, "a-"))
+}
+
+/// The four alternatives of JA-label.
+fn is_ja_label(spelled: &str) -> bool {
+    let mixed = |inner: &str| all_of(inner, "jxma-");
+    let single = spelled.len() == 1 && all_of(spelled, "jxm");
+    let from_ja = between(spelled, "jxm", "jxma").is_some_and(mixed);
+    let to_ja = between(spelled, "a", "jxm").is_some_and(mixed);
+    let around_ja =
+        between(spelled, "a", "a").is_some_and(|inner| mixed(inner) && inner.contains(['j', 'x', 'm']));
+    single || from_ja || to_ja || around_ja
+}
+
+/// EXCEPTION-STRING, read of the whole label: some middle dot with nothing
+/// but exceptions and ALNUM-HYPHEN on both sides.
+fn is_exception_string(spelled: &str) -> bool {
+    spelled
+        .match_indices('m')
+        .any(|(at, _)| all_of(&spelled[..at], "xma-") && all_of(&spelled[at + 1..], "xma-"))
+}
+
+/// A label by the grammar as it is printed, alternative by alternative.
+pub fn is_label(label: &[u32]) -> bool {
+    let spelled = spell(label);
+    let ja = is_ja_label(&spelled) && spelled.len() <= 15 && !is_exception_string(&spelled);
+    is_ascii_label(&spelled) || ja
+}
+
+/// The class of a normal form by the grammar, or none.
+pub fn class_of(normal: &[u32]) -> Option<Class> {
+    let parts = labels(normal);
+    let (last, front) = parts.split_last()?;
+    if *last != points("jp") {
+        return None;
+    }
+    match front {
+        [label] if is_label(label) => Some(Class::GeneralUse),
+        [label, middle] if is_label(label) && is_prefecture_label(middle) => Some(Class::Prefecture),
+        _ => None,
+    }
+}

@@ -1,0 +1,48 @@
+//! The live check: it shows, after each code point, what the check says of
+//! all that was read, and the normal form of it.
+
+use crate::answer::Class;
+use crate::name::{self, LONGEST_TEXT};
+use crate::normal::normal_form;
+
+/// What was read, as far as it matters: after 257 code points nothing does.
+#[derive(Clone, Debug, Default, PartialEq, Eq)]
+pub struct Live {
+    read: Vec<u32>,
+}
+
+/// What a look shows.
+#[derive(Clone, Debug, PartialEq, Eq)]
+pub struct Shown {
+    pub number: u8,
+    pub place: usize,
+    pub class: Option<Class>,
+    pub length: usize,
+    pub text: [u32; LONGEST_TEXT],
+}
+
+impl Live {
+    pub fn fresh() -> Live {
+        Live::default()
+    }
+
+    pub fn step(&mut self, code: u32) {
+        if self.read.len() <= LONGEST_TEXT {
+            self.read.push(code);
+        }
+    }
+
+    pub fn look(&self) -> Shown {
+        let (number, place, class) = match name::check(&self.read) {
+            Ok(accepted) => (0, 0, Some(accepted.class)),
+            Err(refusal) => (refusal.number, refusal.place, None),
+        };
+        let normal = match self.read.len() > LONGEST_TEXT {
+            true => Vec::new(),
+            false => normal_form(&self.read),
+        };
+        let mut text = [0; LONGEST_TEXT];
+        text[..normal.len()].copy_from_slice(&normal);
+        Shown { number, place, class, length: normal.len(), text }
+    }
+}

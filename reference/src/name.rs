@@ -1,0 +1,141 @@
+//! The name rules in the order of document 01.
+
+use crate::answer::{Class, Refusal};
+use crate::chars::{is_ascii_set, is_japanese, HYPHEN, MIDDLE_DOT, PERIOD};
+use crate::coder;
+use crate::normal::{labels, placed_normal_form};
+use crate::points;
+use std::collections::HashSet;
+use std::sync::OnceLock;
+
+pub const LONGEST_TEXT: usize = 256;
+
+const LATIN_PREFECTURES: &str = "\
+HOKKAIDO AOMORI IWATE MIYAGI AKITA YAMAGATA FUKUSHIMA IBARAKI TOCHIGI GUNMA \
+SAITAMA CHIBA TOKYO KANAGAWA NIIGATA TOYAMA ISHIKAWA FUKUI YAMANASHI NAGANO \
+GIFU SHIZUOKA AICHI MIE SHIGA KYOTO OSAKA HYOGO NARA WAKAYAMA TOTTORI SHIMANE \
+OKAYAMA HIROSHIMA YAMAGUCHI TOKUSHIMA KAGAWA EHIME KOCHI FUKUOKA SAGA NAGASAKI \
+KUMAMOTO OITA MIYAZAKI KAGOSHIMA OKINAWA";
+
+/// Document 004's code points, written as the characters they are.
+const JAPANESE_PREFECTURES: &str = "\
+北海道 青森 岩手 宮城 秋田 山形 福島 茨城 栃木 群馬 埼玉 千葉 東京 神奈川 新潟 \
+富山 石川 福井 山梨 長野 岐阜 静岡 愛知 三重 滋賀 京都 大阪 兵庫 奈良 和歌山 \
+鳥取 島根 岡山 広島 山口 徳島 香川 愛媛 高知 福岡 佐賀 長崎 熊本 大分 宮崎 \
+鹿児島 沖縄";
+
+/// A name that passed all checks.
+#[derive(Clone, Debug, PartialEq, Eq)]
+pub struct Accepted {
+    pub normal: Vec<u32>,
+    pub labels: Vec<Vec<u32>>,
+    pub class: Class,
+}
+
+/// The Latin prefecture labels in lower case.
+pub fn latin_prefectures() -> Vec<String> {
+    let words = LATIN_PREFECTURES.split_whitespace();
+    words.map(str::to_lowercase).collect()
+}
+
+pub fn japanese_prefectures() -> Vec<String> {
+    let words = JAPANESE_PREFECTURES.split_whitespace();
+    words.map(String::from).collect()
+}
+
+fn prefectures() -> &'static HashSet<Vec<u32>> {
+    static LABELS: OnceLock<HashSet<Vec<u32>>> = OnceLock::new();
+    LABELS.get_or_init(|| {
+        let mut words = latin_prefectures();
+        words.extend(japanese_prefectures());
+        let labels: HashSet<Vec<u32>> = words.iter().map(|word| points(word)).collect();
+        assert_eq!(labels.len(), 94);
+        labels
+    })
+}
+
+pub fn is_prefecture_label(label: &[u32]) -> bool {
+    prefectures().contains(label)
+}
+
+pub fn is_japanese_label(label: &[u32]) -> bool {
+    label.iter().any(|code| is_japanese(*code))
+}
+
+/// Refusals 2 and 3.
+pub fn check_length(text: &[u32]) -> Result<(), Refusal> {
+    match text.len() {
+        0 => Err(Refusal::plain(2)),
+        length if length > LONGEST_TEXT => Err(Refusal::at(3, LONGEST_TEXT)),
+        _ => Ok(()),
+    }
+}
+
+fn is_permitted(code: u32) -> bool {
+    code == PERIOD || is_ascii_set(code) || is_japanese(code)
+}
+
+fn breaks_middle_dot_rule(label: &[u32]) -> bool {
+    let exceptions = [0x3006, 0x30FC, MIDDLE_DOT];
+    let others = |code: &u32| is_japanese(*code) && !exceptions.contains(code);
+    label.contains(&MIDDLE_DOT) && !label.iter().any(others)
+}
+
+/// Refusals 7 to 10, for a label that is not empty and has permitted
+/// characters only.
+pub fn check_leftmost(label: &[u32]) -> Result<(), Refusal> {
+    let japanese = is_japanese_label(label);
+    let longest = if japanese { 15 } else { 63 };
+    if label.first() == Some(&HYPHEN) || label.last() == Some(&HYPHEN) {
+        Err(Refusal::plain(7))
+    } else if !japanese && label.len() < 3 {
+        Err(Refusal::plain(8))
+    } else if label.len() > longest {
+        Err(Refusal::plain(9))
+    } else if breaks_middle_dot_rule(label) {
+        Err(Refusal::plain(10))
+    } else {
+        Ok(())
+    }
+}
+
+/// The whole check, given room: refusals 2 to 12.
+pub fn check(text: &[u32]) -> Result<Accepted, Refusal> {
+    check_length(text)?;
+    let placed = placed_normal_form(text);
+    if let Some(unfit) = placed.iter().find(|c| !is_permitted(c.code)) {
+        return Err(Refusal::at(4, unfit.place));
+    }
+    let normal: Vec<u32> = placed.iter().map(|c| c.code).collect();
+    let labels = labels(&normal);
+    if !(2..=3).contains(&labels.len()) {
+        return Err(Refusal::plain(5));
+    }
+    if let Some(empty) = labels.iter().position(Vec::is_empty) {
+        return Err(Refusal::at(6, empty));
+    }
+    check_leftmost(&labels[0])?;
+    if labels.last() != Some(&points("jp")) {
+        return Err(Refusal::plain(11));
+    }
+    let class = match labels.len() {
+        2 => Class::GeneralUse,
+        _ if is_prefecture_label(&labels[1]) => Class::Prefecture,
+        _ => return Err(Refusal::plain(12)),
+    };
+    Ok(Accepted { normal, labels, class })
+}
+
+/// The whole ASCII form, given room: refusals 2 to 12, then 14.
+pub fn ascii_form(text: &[u32]) -> Result<(String, Class), Refusal> {
+    let accepted = check(text)?;
+    let mut parts = Vec::new();
+    for label in &accepted.labels {
+        parts.push(if is_japanese_label(label) {
+            coder::encode(label)?
+        } else {
+            label.iter().filter_map(|c| char::from_u32(*c)).collect()
+        });
+    }
+    Ok((parts.join("."), accepted.class))
+}

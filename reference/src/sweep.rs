@@ -1,0 +1,85 @@
+//! The big sweeps outside the gate, as probe lines.
+
+use crate::cases::characters::{with_jp, MARKS};
+use crate::cases::probe_line;
+use crate::cases::random::NameMaker;
+use crate::random::Random;
+
+pub const PARTS: [&str; 5] = ["first", "second", "above", "marks", "random"];
+
+/// The bases after which the second character is tried.
+const BASES: [u32; 2] = [0x30CF, 0x3046];
+
+/// The lines of a part, or none where there is no such part.
+pub fn lines(part: &str) -> Option<Box<dyn Iterator<Item = String>>> {
+    Some(match part {
+        "first" => Box::new((0..0x30000).flat_map(first)),
+        "second" => Box::new((0..0x30000).flat_map(second)),
+        "above" => Box::new(above().flat_map(|code| first(code).into_iter().chain(second(code)))),
+        "marks" => Box::new((0..0x10000).flat_map(marked)),
+        "random" => Box::new(random()),
+        _ => return None,
+    })
+}
+
+/// A code point as a label of one character.
+fn first(code: u32) -> Vec<String> {
+    let text = with_jp(&[code]);
+    vec![
+        probe_line('N', 256, &text),
+        probe_line('C', 256, &text),
+        probe_line('A', 192, &text),
+        probe_line('L', 0, &text),
+        probe_line('S', 0, &[code]),
+        probe_line('E', 63, &[code]),
+    ]
+}
+
+/// A code point as the second character after a base.
+fn second(code: u32) -> Vec<String> {
+    let after = |base: u32| {
+        let text = with_jp(&[base, code]);
+        [
+            probe_line('N', 256, &text),
+            probe_line('C', 256, &text),
+            probe_line('L', 0, &[base, code]),
+            probe_line('S', 0, &[base, code]),
+            probe_line('E', 63, &[base, code]),
+        ]
+    };
+    BASES.into_iter().flat_map(after).collect()
+}
+
+/// A sample above 2FFFF and numbers past 10FFFF.
+fn above() -> impl Iterator<Item = u32> {
+    let planes = (0x30000..=0x110FFF).step_by(37);
+    let edges = (0x10FFF0..=0x110010).chain(0xAAAAAA00..=0xAAAAAAAA);
+    let powers = (21..32).flat_map(|bit| [(1 << bit) - 1, 1 << bit, (1 << bit) | 0x3042, (1 << bit) | 0x61]);
+    let top = 0xFFFFFFF0..=0xFFFFFFFF;
+    planes.chain(edges).chain(powers).chain(top)
+}
+
+/// A code point followed by each mark.
+fn marked(code: u32) -> Vec<String> {
+    let with = |mark: u32| {
+        let text = with_jp(&[code, mark]);
+        [probe_line('N', 256, &text), probe_line('L', 0, &text)]
+    };
+    MARKS.into_iter().flat_map(with).collect()
+}
+
+/// Random names as typed, each followed by a damaged copy.
+fn random() -> impl Iterator<Item = String> {
+    let mut random = Random::seeded(7);
+    let maker = NameMaker::default();
+    (0..100_000).flat_map(move |_| {
+        let typed = maker.typed_name(&mut random);
+        let damaged = maker.edit(&typed, &mut random);
+        [typed, damaged]
+            .iter()
+            .flat_map(|text| {
+                [('C', 256), ('A', 192), ('L', 0)].map(|(call, lent)| probe_line(call, lent, text))
+            })
+            .collect::<Vec<_>>()
+    })
+}

@@ -1,0 +1,140 @@
+//! Two routes to the same answer, held against each other.
+
+use reference::cases::random::{any_label, NameMaker};
+use reference::live::Live;
+use reference::random::Random;
+use reference::{cases, chars, coder, grammar, name, normal, utf8};
+
+/// The numbers of every case of the calls given.
+fn cases_of(calls: &str) -> Vec<Vec<u32>> {
+    let lines = cases::all_lines();
+    let chosen = lines.iter().filter(|line| calls.contains(&line[..1]));
+    let numbers = chosen.map(|line| {
+        let hex = line.split(' ').skip(2);
+        hex.map(|word| u32::from_str_radix(word, 16).unwrap()).collect()
+    });
+    numbers.collect()
+}
+
+/// The second reader by the numbered rules.
+fn read_by_rules(label: &[u32]) -> bool {
+    let fits = |code: &u32| chars::is_ascii_set(*code) || chars::is_japanese(*code);
+    !label.is_empty() && label.iter().all(fits) && name::check_leftmost(label).is_ok()
+}
+
+fn assert_readers_agree(label: &[u32]) {
+    let answer = grammar::second_reader(label);
+    assert_eq!(answer, grammar::is_label(label), "{label:x?}");
+    assert_eq!(answer, read_by_rules(label), "{label:x?}");
+}
+
+#[test]
+fn three_readers_of_labels_agree_on_the_cases() {
+    for text in cases_of("SNCAL") {
+        assert_readers_agree(&text);
+        for label in normal::labels(&normal::normal_form(&text)) {
+            assert_readers_agree(&label);
+        }
+    }
+}
+
+/// All labels of up to seven characters over one character of each kind.
+#[test]
+fn three_readers_of_labels_agree_on_all_short_labels() {
+    let kinds = [0x61, 0x2D, 0x30FB, 0x30FC, 0x3042, 0x20];
+    let mut labels = vec![vec![]];
+    for _ in 0..7 {
+        labels.iter().for_each(|label: &Vec<u32>| assert_readers_agree(label));
+        labels = labels.iter().flat_map(|label| kinds.map(|kind| [&label[..], &[kind]].concat())).collect();
+    }
+}
+
+#[test]
+fn rules_and_grammar_accept_the_same_names() {
+    let mut random = Random::seeded(3);
+    let maker = NameMaker::default();
+    let mut texts = cases_of("NCAL");
+    texts.extend((0..20_000).map(|_| maker.typed_name(&mut random)));
+    let mut accepted = 0;
+    for text in texts.iter().filter(|text| name::check_length(text).is_ok()) {
+        let by_rules = name::check(text).ok().map(|name| name.class);
+        assert_eq!(by_rules, grammar::class_of(&normal::normal_form(text)), "{text:x?}");
+        accepted += usize::from(by_rules.is_some());
+    }
+    assert!(accepted > 10_000);
+}
+
+#[test]
+fn normal_form_is_no_longer_and_stays_itself() {
+    for text in cases_of("NCAL") {
+        let normal = normal::normal_form(&text);
+        assert!(normal.len() <= text.len());
+        assert_eq!(normal::normal_form(&normal), normal);
+    }
+}
+
+#[test]
+fn respelled_names_have_one_normal_form() {
+    let mut random = Random::seeded(4);
+    let maker = NameMaker::default();
+    for _ in 0..5_000 {
+        let name = maker.normal_name(&mut random);
+        let typed = maker.respell(&name, &mut random);
+        assert_eq!(normal::normal_form(&typed), name);
+    }
+}
+
+#[test]
+fn two_coders_agree_and_the_decoder_goes_back() {
+    let mut random = Random::seeded(5);
+    let mut labels = cases_of("E");
+    labels.extend((0..20_000).map(|_| any_label(&mut random)));
+    for label in labels.iter().filter(|label| coder::is_encodable(label)) {
+        let tail = coder::RFC.encode_any(label);
+        assert_eq!(tail, coder::encode_by_insertion(label));
+        assert_eq!(coder::RFC.decode_any(&tail).as_ref(), Some(label));
+        if let Ok(encoded) = coder::encode(label) {
+            assert_eq!(coder::decode(encoded.as_bytes()).as_ref(), Ok(label));
+        }
+    }
+}
+
+#[test]
+fn live_check_shows_the_check_of_every_beginning() {
+    let mut random = Random::seeded(6);
+    let maker = NameMaker::default();
+    for round in 0..300 {
+        let mut live = Live::fresh();
+        let mut text = maker.typed_name(&mut random);
+        while round % 50 == 0 && text.len() < 270 {
+            text.extend(maker.typed_name(&mut random));
+        }
+        for end in 0..=text.len() {
+            let (read, shown) = (&text[..end], live.look());
+            let number = name::check(read).err().map_or(0, |refusal| refusal.number);
+            assert_eq!(shown.number, number);
+            let normal = if end > 256 { Vec::new() } else { normal::normal_form(read) };
+            assert_eq!(shown.text[..shown.length], normal);
+            assert!(shown.text[shown.length..].iter().all(|code| *code == 0));
+            text.get(end).into_iter().for_each(|code| live.step(*code));
+        }
+    }
+}
+
+#[test]
+fn utf8_is_read_as_the_standard_library_reads_it() {
+    let agree = |bytes: &[u8]| {
+        let expected = std::str::from_utf8(bytes).ok().map(reference::points);
+        assert_eq!(utf8::read(bytes), expected, "{bytes:x?}");
+    };
+    for pair in 0..=0xFFFFu16 {
+        let [first, second] = pair.to_be_bytes();
+        agree(&[first]);
+        agree(&[first, second]);
+        for tail in [0x00, 0x7F, 0x80, 0xBF, 0xC0] {
+            agree(&[first, second, tail]);
+            agree(&[first, second, 0x80, tail]);
+            agree(&[first, second, tail, 0xBF]);
+        }
+    }
+}
