@@ -2,26 +2,26 @@
 -- it complete.
 -- Assumes nothing.
 use mathlib.Core.Path.{_≡_, refl, sym, ap, _∙_}
-use mathlib.Core.Bool.{Bool, true, false, _&&_, false≢true}
-use mathlib.Core.List.{List, [], _∷_, _++_, map}
+use mathlib.Core.Bool.{Bool, true, false}
+use mathlib.Core.List.{List, [], _++_, map}
 use mathlib.Core.Option.{Option, none, some, Option·none-ne-some}
 use Prim.Native.Nat.{ℕ, _-_, _≤_, _<_}
 use native.Mathlib.Omega.{arith}
+use lib.Dec.{eqb}
 use lib.ListN.{length, take, drop, length-take, length-drop, drop-of-length-le}
 use lib.Seq.{take-all, take-length}
-use lib.Dec.{eqb}
 use borrow.Author.Tests.{lt-ltb, le-ltb, le-leb, lt-leb}
-use Rattle.lists.specs.Tests.{pick, within, allOf, anyOf, same}
-use Rattle.lists.specs.Front.{written}
-use Rattle.lists.proofs.Laws.{both, same-refl, same-is}
 use Rattle.lists.proofs.Fronts.{untouched}
-use Rattle.punycode.specs.Punycode.{encodable, ace}
+use Rattle.lists.proofs.Laws.{both, same-refl, same-is}
+use Rattle.lists.specs.Front.{written}
+use Rattle.lists.specs.Tests.{pick, within, same}
 use Rattle.punycode.specs.Calls.{answered, coderNumber, coderWrites, Encodes, lower, Encoding, small, taken, left, Decodes}
 use Rattle.punycode.specs.Decoding.{decode, lastDelimiter, octets, label, encodes, keep, found}
 use Rattle.punycode.specs.Inner.{answer}
+use Rattle.punycode.specs.Punycode.{encodable, ace}
 use Rattle.punycode.specs.declared.Coded.{Coded}
-use Rattle.punycode.proofs.Theorems.{round-trip}
 use Rattle.punycode.proofs.Clipped.{whole}
+use Rattle.punycode.proofs.Theorems.{round-trip}
 
 -- ---- a part of a slice
 

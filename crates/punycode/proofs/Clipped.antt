@@ -1,4 +1,5 @@
--- The coder keeps the first 64 octets of what it writes: to cut what is cut already, and to write on from there, loses nothing.
+-- The coder's code follows the encoding procedure, of whose output it keeps the first 64 octets: to cut what is cut already, and to write on
+-- from there, loses nothing.
 -- Assumes nothing.
 use mathlib.Core.Path.{_≡_, refl, sym, ap, _∙_}
 use mathlib.Core.Bool.{Bool, true, false}
@@ -12,8 +13,8 @@ use lib.ListN.{length, getD, take, drop, set, length-append, length-take, drop-o
 use lib.Seq.{drop-cons, take-suc-set, take-append-le, length-take-le, take-all, take-take, append-snoc}
 use borrow.Author.Tests.{lt-ltb, le-ltb, ne-eqb, eq-eqb}
 use Rattle.lists.specs.Tests.{pick}
-use Rattle.punycode.specs.Punycode.{adaptLoop, adapt, threshold, digit, varint, nearer, least, Enc, emit, add, point, points, below, delimiter, extended, encode, ace}
 use Rattle.punycode.specs.Inner.{kept, held}
+use Rattle.punycode.specs.Punycode.{adaptLoop, adapt, threshold, digit, varint, nearer, least, Enc, emit, add, point, points, below, delimiter, extended, encode, ace}
 use Rattle.punycode.specs.declared.coder.State.{State}
 use Rattle.punycode.proofs.Reading.{split}
 

@@ -10,10 +10,10 @@ use lib.Dec.{eqb}
 use lib.ListN.{length, length-append}
 use lib.Seq.{take-append-seam, drop-append-seam, append-snoc}
 use borrow.Author.Tests.{lt-ltb, le-ltb, ne-eqb, eq-eqb}
-use Rattle.lists.specs.Tests.{allOf}
 use Rattle.lists.proofs.Laws.{all-append}
-use Rattle.punycode.specs.Punycode.{adapt, varint, Enc, emit, add, below, point, points, alnum}
+use Rattle.lists.specs.Tests.{allOf}
 use Rattle.punycode.specs.Decoding.{Dec, reading, insert, place, octet, octets}
+use Rattle.punycode.specs.Punycode.{adapt, varint, Enc, emit, add, below, point, points, alnum}
 use Rattle.punycode.proofs.Reading.{split, varint-read, varint-alnum}
 
 pub octets-append : (xs ys : List ℕ) (s : Dec) → octets (xs ++ ys) s ≡ octets ys (octets xs s)

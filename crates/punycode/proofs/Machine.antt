@@ -1,9 +1,9 @@
 -- The decoder's code follows the decoding procedure: each function's result is the procedure's step, and each turn of a loop one octet or entry.
 -- Assumes nothing.
-use mathlib.Core.Path.{_≡_, refl, sym, ap, _∙_}
+use mathlib.Core.Path.{_≡_, refl, sym, _∙_}
 use mathlib.Core.Bool.{Bool, true, false, _&&_}
 use mathlib.Core.List.{List, [], _∷_, _++_, map, head-eq-of-cons-eq, tail-eq-of-cons-eq}
-use Prim.Native.Nat.{ℕ, suc, _+_, _-_, _*_, _/_, _%_, _≤_, _<_}
+use Prim.Native.Nat.{ℕ, suc, min, _+_, _-_, _*_, _/_, _%_, _≤_, _<_}
 use native.Mathlib.Nat.{mul-le-mul, mul-le-mul-right}
 use native.Mathlib.Numerals.{add-one}
 use native.Mathlib.Omega.{arith}
@@ -12,10 +12,10 @@ use lib.ListN.{length, getD, take, drop, set, length-set, drop-of-length-le, Lis
 use lib.Seq.{drop-cons, take-suc-set, take-take, drop-set-lt, append-snoc, length-take-le, getD-take, take-suc}
 use borrow.Author.Tests.{lt-ltb, le-ltb}
 use Rattle.lists.specs.Tests.{within}
-use Rattle.punycode.specs.Punycode.{adapt, threshold}
 use Rattle.punycode.specs.Calls.{lower}
-use Rattle.punycode.specs.Decoding.{value, Dec, reading, refused, insert, place, octet, octets, mark, lastDelimiter, label, decode}
+use Rattle.punycode.specs.Decoding.{value, Dec, reading, insert, place, octet, octets, mark, lastDelimiter, label, decode}
 use Rattle.punycode.specs.Inner.{read, answer}
+use Rattle.punycode.specs.Punycode.{adapt, threshold}
 use Rattle.punycode.specs.declared.decoder.Reader.{Reader}
 
 -- ---- insertion: the element at j goes up by one
@@ -82,24 +82,28 @@ module _ (c : ℕ) (s : Reader) (text : List ℕ) where
       unfolding read octet
       octet-none h = rw (is, stops, ← d-is, le-ltb d 36 h)
 
-      pub octet-over : d < 36 → 0x4400000 ≤ s .i + d * s .w → read r text′ ≡ octet c (read s text)
+      pub octet-over : (p : ℕ) → p ≡ min (d * s .w) 0x4400000 → d < 36 → 0x4400000 ≤ s .i + p → read r text′ ≡ octet c (read s text)
       unfolding read octet
-      octet-over h g = rw (is, stops, ← d-is, lt-ltb d 36 h, le-ltb (s .i + d * s .w) 0x4400000 g)
+      octet-over p p-is h g = rw (is, stops, ← d-is, lt-ltb d 36 h, le-ltb (s .i + d * s .w) 0x4400000 (omega arith))
 
-    module _ (small : d < 36) (fits : s .i + d * s .w < 0x4400000) (t : ℕ) (t-is : t ≡ threshold (s .k) (s .bias)) where
-      pub octet-last : (x : Dec) → d < t → x ≡ place (s .n) (take (s .len) text) (s .oldi) (s .i + d * s .w) → x ≡ octet c (read s text)
+    module _ (small : d < 36) (p : ℕ) (p-is : p ≡ min (d * s .w) 0x4400000) (fits : s .i + p < 0x4400000) (t : ℕ) (t-is : t ≡ threshold (s .k) (s .bias)) where
+      weight : d * s .w ≡ p
+      weight = omega arith
+
+      pub octet-last : (x : Dec) → d < t → x ≡ place (s .n) (take (s .len) text) (s .oldi) (s .i + p) → x ≡ octet c (read s text)
       unfolding read octet
-      octet-last x h e = rw (is, ← d-is, ← t-is, lt-ltb d 36 small, lt-ltb (s .i + d * s .w) 0x4400000 fits, lt-ltb d t h) e
+      octet-last x h e = rw (is, ← d-is, ← t-is, weight, lt-ltb d 36 small, lt-ltb (s .i + p) 0x4400000 fits, lt-ltb d t h) e
 
-      pub octet-more : t ≤ d
-          → reading (s .n) (s .bias) (take (s .len) text) (s .oldi) (s .i + d * s .w) (s .w * (36 - t)) (s .k + 36) ≡ octet c (read s text)
+      pub octet-more : t ≤ d → reading (s .n) (s .bias) (take (s .len) text) (s .oldi) (s .i + p) (s .w * (36 - t)) (s .k + 36) ≡ octet c (read s text)
       unfolding read octet
-      octet-more h = rw (is, ← d-is, ← t-is, lt-ltb d 36 small, lt-ltb (s .i + d * s .w) 0x4400000 fits, le-ltb d t h)
+      octet-more h = rw (is, ← d-is, ← t-is, weight, lt-ltb d 36 small, lt-ltb (s .i + p) 0x4400000 fits, le-ltb d t h)
 
-pub more-fits : (i d w t : ℕ) → i + d * w < 0x4400000 → 1 ≤ t → t ≤ d → w * (36 - t) ≤ 35 * 0x4400000
-more-fits i d w t h l g =
-    let low = mul-le-mul-right {m = 1} {n = d} w (omega arith) in
-    omega (arith, mul-le-mul {n₁ = w} {m₁ = 36 - t} {n₂ = 0x4400000} {m₂ = 35} (omega arith) (omega arith))
+      -- a digit that is not the last is at least 1, so that its weight is small
+      pub octet-fits : t ≤ d → 1 ≤ t → s .w * (36 - t) ≤ 35 * 0x4400000
+      octet-fits h l =
+          let low = mul-le-mul-right {m = 1} {n = d} (s .w) (omega arith) in
+          let e = weight in
+          omega (arith, mul-le-mul {n₁ = s .w} {m₁ = 36 - t} {n₂ = 0x4400000} {m₂ = 35} (omega arith) (omega arith))
 
 -- ---- the loops
 

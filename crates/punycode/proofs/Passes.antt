@@ -1,18 +1,17 @@
 -- The coder's outer loop: what it keeps is what the procedure has written, and the round trip's invariant bounds every number on the way.
 -- Assumes nothing.
-use mathlib.Core.Path.{_≡_, refl, sym, ap, _∙_}
-use mathlib.Core.List.{List, [], _∷_, _++_, append-nil}
+use mathlib.Core.Path.{_≡_, refl, ap, _∙_}
+use mathlib.Core.List.{List, [], _++_}
 use Prim.Native.Nat.{ℕ, zero, suc, _+_, _-_, _*_, _≤_, _<_}
 use native.Mathlib.Nat.{mul-le-mul}
 use native.Mathlib.Omega.{arith}
 use lib.ListN.{length, take}
 use borrow.Author.Tests.{lt-ltb, le-ltb}
+use Rattle.punycode.specs.Inner.{kept}
 use Rattle.punycode.specs.Punycode.{Enc, add, points, least, passes, below, initial, extended}
-use Rattle.punycode.specs.Inner.{kept, held}
-use Rattle.punycode.specs.declared.coder.State.{State}
+use Rattle.punycode.proofs.Clipped.{points-kept}
 use Rattle.punycode.proofs.Insertion.{Inv, length-below, points-inv}
 use Rattle.punycode.proofs.RoundTrip.{least-is, least-under, rise, wrap, first-dec, first-inv}
-use Rattle.punycode.proofs.Clipped.{clip-again, points-kept}
 
 -- the outer loop is at n, p is written before it, and x is what the coder keeps
 pub record At (p l : List ℕ) (n : ℕ) (x : Enc) : Type 0 where

@@ -1,17 +1,17 @@
 -- The decoder reads a variable-length integer back: each digit's value times its weight adds up to what the coder took apart.
 -- Assumes nothing.
 use mathlib.Core.Path.{_≡_, refl, ap, _∙_}
-use mathlib.Core.Bool.{Bool, true}
-use mathlib.Core.List.{List, [], _∷_, _++_}
+use mathlib.Core.Bool.{true}
+use mathlib.Core.List.{List}
 use Prim.Native.Nat.{ℕ, zero, suc, _+_, _-_, _*_, _/_, _%_, _≤_, _<_}
 use native.Mathlib.Decide.{decLt}
 use native.Mathlib.Nat.{div-add-mod', div-le-self, mul-le-mul-right, mod-lt, not-suc-le-zero}
 use native.Mathlib.Omega.{arith}
 use borrow.Author.Tests.{lt-ltb, le-ltb, le-leb, lt-leb}
-use Rattle.lists.specs.Tests.{allOf}
 use Rattle.lists.proofs.Laws.{inside, outside}
-use Rattle.punycode.specs.Punycode.{threshold, digit, varint, alnum}
+use Rattle.lists.specs.Tests.{allOf}
 use Rattle.punycode.specs.Decoding.{value, reading, place, octet, octets}
+use Rattle.punycode.specs.Punycode.{threshold, digit, varint, alnum}
 
 -- an order decided
 pub split {ℓ} : {X : Type ℓ} (a b : ℕ) → (a < b → X) → (b ≤ a → X) → X

@@ -1,22 +1,21 @@
 -- The decoder gives back what was encoded: after each pass for m it holds the label's code points up to m, in order, and after the last all.
 -- Assumes nothing.
-use mathlib.Core.Path.{_≡_, refl, sym, ap, _∙_}
+use mathlib.Core.Path.{_≡_, refl, ap, _∙_}
 use mathlib.Core.Bool.{true, false≢true}
 use mathlib.Core.List.{List, [], _∷_, _++_, append-nil}
 use mathlib.Core.Option.{some}
 use Prim.Native.Nat.{ℕ, zero, suc, _+_, _-_, _*_, _≤_, _<_}
 use native.Mathlib.Nat.{add-mul, add-sub-cancel}
 use native.Mathlib.Omega.{arith}
-use lib.Dec.{eqb}
 use lib.ListN.{length}
 use lib.Seq.{append-snoc, take-append-seam, drop-append-add}
 use borrow.Author.Tests.{lt-ltb, le-ltb, le-leb, lt-leb, ne-eqb, eq-eqb}
-use Rattle.lists.specs.Tests.{within, allOf}
 use Rattle.lists.proofs.Laws.{both}
-use Rattle.punycode.specs.Punycode.{nearer, alnum, Enc, add, below, initial, points, least, passes, extended, delimiter, encode}
+use Rattle.lists.specs.Tests.{within, allOf}
 use Rattle.punycode.specs.Decoding.{Dec, reading, octets, mark, lastDelimiter, label, decode}
-use Rattle.punycode.proofs.Reading.{split}
+use Rattle.punycode.specs.Punycode.{nearer, alnum, Enc, add, below, initial, least, passes, extended, delimiter, encode}
 use Rattle.punycode.proofs.Insertion.{between, Inv, length-below, points-inv}
+use Rattle.punycode.proofs.Reading.{split}
 
 -- ---- the minimum
 

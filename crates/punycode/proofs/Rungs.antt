@@ -1,34 +1,30 @@
 -- The tests on one number, rung by rung as the code's ladders of comparisons have them: between two bounds a test has one answer.
 -- Assumes nothing.
-use mathlib.Core.Path.{_≡_, refl, sym, ap, _∙_}
-use mathlib.Core.Bool.{Bool, true, false, _&&_, _||_, or-true, or-false}
+use mathlib.Core.Path.{_≡_, sym, _∙_}
+use mathlib.Core.Bool.{Bool, true, false, or-true, or-false}
 use mathlib.Core.List.{List, [], _∷_}
 use Prim.Native.Nat.{ℕ, _+_, _-_, _≤_, _<_}
 use native.Mathlib.Omega.{arith}
 use lib.Dec.{ltb, leb}
 use lib.ListN.{length}
 use borrow.Author.Tests.{lt-ltb, le-ltb, le-leb, lt-leb, ne-eqb, eq-eqb}
-use Rattle.lists.specs.Tests.{within, allOf, anyOf}
 use Rattle.lists.proofs.Laws.{inside, outside}
-use Rattle.punycode.specs.Punycode.{nearer, delimiter, alnum, ldh, wide, allowed, encodable}
+use Rattle.lists.specs.Tests.{allOf, anyOf}
 use Rattle.punycode.specs.Calls.{lower}
 use Rattle.punycode.specs.Decoding.{value, mark}
+use Rattle.punycode.specs.Punycode.{nearer, delimiter, alnum, ldh, wide, allowed, encodable}
 use Rattle.punycode.proofs.Reading.{split}
 
 module _ (c : ℕ) where
   -- ---- letters and digits
 
-  pub alnum-low : c < 48 → false ≡ alnum c
+  pub alnum-no : (97 ≤ c → c ≤ 122 → ⊥) → (48 ≤ c → c ≤ 57 → ⊥) → false ≡ alnum c
   unfolding alnum
-  alnum-low h = rw (outside 97 122 c (λ p q. omega arith), outside 48 57 c (λ p q. omega arith))
+  alnum-no f g = rw (outside 97 122 c f, outside 48 57 c g)
 
   pub alnum-digit : 48 ≤ c → c < 58 → true ≡ alnum c
   unfolding alnum
   alnum-digit h g = rw (outside 97 122 c (λ p q. omega arith), inside 48 57 c h (omega arith))
-
-  pub alnum-mid : 58 ≤ c → c < 97 → false ≡ alnum c
-  unfolding alnum
-  alnum-mid h g = rw (outside 97 122 c (λ p q. omega arith), outside 48 57 c (λ p q. omega arith))
 
   pub alnum-high : 97 ≤ c → ltb c 123 ≡ alnum c
   unfolding alnum
@@ -74,39 +70,27 @@ module _ (c : ℕ) where
 
   -- ---- lower case
 
-  pub lower-low : c < 65 → c ≡ lower c
-  unfolding lower
-  lower-low h = rw (outside 65 90 c (λ p q. omega arith))
-
   pub lower-upper : 65 ≤ c → c < 91 → c + 32 ≡ lower c
   unfolding lower
   lower-upper h g = rw (inside 65 90 c h (omega arith))
 
-  pub lower-high : 91 ≤ c → c ≡ lower c
+  pub lower-other : (65 ≤ c → c ≤ 90 → ⊥) → c ≡ lower c
   unfolding lower
-  lower-high h = rw (outside 65 90 c (λ p q. omega arith))
+  lower-other f = rw (outside 65 90 c f)
 
   -- ---- the value of a digit
-
-  pub value-low : c < 48 → 36 ≡ value c
-  unfolding value
-  value-low h = rw (outside 97 122 c (λ p q. omega arith), outside 48 57 c (λ p q. omega arith))
-
-  pub value-digit : 48 ≤ c → c < 58 → c - 48 + 26 ≡ value c
-  unfolding value
-  value-digit h g = rw (outside 97 122 c (λ p q. omega arith), inside 48 57 c h (omega arith))
-
-  pub value-mid : 58 ≤ c → c < 97 → 36 ≡ value c
-  unfolding value
-  value-mid h g = rw (outside 97 122 c (λ p q. omega arith), outside 48 57 c (λ p q. omega arith))
 
   pub value-letter : 97 ≤ c → c < 123 → c - 97 ≡ value c
   unfolding value
   value-letter h g = rw (inside 97 122 c h (omega arith))
 
-  pub value-high : 123 ≤ c → 36 ≡ value c
+  pub value-digit : 48 ≤ c → c < 58 → c - 48 + 26 ≡ value c
   unfolding value
-  value-high h = rw (outside 97 122 c (λ p q. omega arith), outside 48 57 c (λ p q. omega arith))
+  value-digit h g = rw (outside 97 122 c (λ p q. omega arith), inside 48 57 c h (omega arith))
+
+  pub value-none : (97 ≤ c → c ≤ 122 → ⊥) → (48 ≤ c → c ≤ 57 → ⊥) → 36 ≡ value c
+  unfolding value
+  value-none f g = rw (outside 97 122 c f, outside 48 57 c g)
 
   -- ---- the last delimiter so far
 
@@ -144,13 +128,9 @@ delimiter-yes b e = rw (ne-eqb b 0 e)
 -- ---- a whole label
 
 module _ (l : List ℕ) where
-  pub encodable-none : length l < 1 → false ≡ encodable l
+  pub encodable-size : (1 ≤ length l → length l ≤ 63 → ⊥) → false ≡ encodable l
   unfolding encodable
-  encodable-none h = rw (outside 1 63 (length l) (λ p q. omega arith))
-
-  pub encodable-many : 63 < length l → false ≡ encodable l
-  unfolding encodable
-  encodable-many h = rw (outside 1 63 (length l) (λ p q. omega arith))
+  encodable-size f = rw (outside 1 63 (length l) f)
 
   module _ (h : 1 ≤ length l) (g : length l ≤ 63) (r : Bool) (each : r ≡ allOf allowed l) where
     pub encodable-bad : r ≡ false → false ≡ encodable l

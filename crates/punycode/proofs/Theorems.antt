@@ -1,19 +1,19 @@
 -- Encodable labels: decoding the encoding gives the label back, so no two share one, and an encoding is lower-case letters, digits and
 -- hyphens, since the basic code points and the digits are.
 -- Assumes nothing.
-use mathlib.Core.Path.{_≡_, refl, sym, ap, _∙_}
-use mathlib.Core.Bool.{Bool, true, false, _&&_, _||_, false≢true, or-false}
-use mathlib.Core.List.{List, [], _∷_, _++_}
+use mathlib.Core.Path.{_≡_, refl, ap}
+use mathlib.Core.Bool.{true, _&&_, false≢true, or-false}
+use mathlib.Core.List.{List, [], _∷_}
 use mathlib.Core.Option.{some}
 use Prim.Native.Nat.{ℕ, _≤_, _<_}
 use native.Mathlib.Omega.{arith}
 use lib.Dec.{leb}
 use lib.ListN.{length, drop}
 use borrow.Author.Tests.{lt-ltb, le-ltb, ne-eqb, eq-eqb}
-use Rattle.lists.specs.Tests.{within, allOf, anyOf}
 use Rattle.lists.proofs.Laws.{both, or-left, outside, in-range, all-append, all-weaker}
-use Rattle.punycode.specs.Punycode.{alnum, ldh, wide, allowed, encodable, below, extended, delimiter, encode, ace}
+use Rattle.lists.specs.Tests.{within, allOf, anyOf}
 use Rattle.punycode.specs.Decoding.{decode}
+use Rattle.punycode.specs.Punycode.{alnum, ldh, wide, allowed, encodable, below, extended, delimiter, encode, ace}
 use Rattle.punycode.proofs.Reading.{split}
 use Rattle.punycode.proofs.RoundTrip.{extended-has, decode-encode}
 

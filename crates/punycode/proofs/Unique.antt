@@ -4,32 +4,32 @@
 use mathlib.Core.Path.{_≡_, refl, sym, ap, _∙_}
 use mathlib.Core.Bool.{Bool, true, false}
 use mathlib.Core.List.{List, [], _∷_, map}
-use Prim.Native.Nat.{ℕ, _≤_, _<_}
+use Prim.Native.Nat.{ℕ, _≤_}
 use native.Mathlib.Omega.{arith}
 use lib.Dec.{leb, ltb}
 use lib.ListN.{length, take}
 use borrow.Author.Tests.{leb-true, ne-eqb}
-use Rattle.lists.specs.Tests.{pick, allOf}
-use Rattle.lists.specs.Front.{written}
-use Rattle.lists.proofs.Laws.{both, clash, outside}
 use Rattle.lists.proofs.Fronts.{front}
+use Rattle.lists.proofs.Laws.{both, clash, outside}
+use Rattle.lists.proofs.Unique.{decided}
+use Rattle.lists.specs.Front.{written}
+use Rattle.lists.specs.Tests.{pick, allOf}
+use Rattle.punycode.specs.Calls.{answered, coderNumber, coderWrites, Encodes, lower, Encoding, DecoderSays, small, taken, left, Decodes}
 use Rattle.punycode.specs.Punycode.{alnum, ldh, encodable, ace}
-use Rattle.punycode.specs.Calls.{answered, coderNumber, coderWrites, Encodes, lower, Encoding, Decoding, small, taken, left, Decodes}
 use Rattle.punycode.specs.declared.Coded.{Coded}
-use Rattle.punycode.proofs.Reading.{split}
+use Rattle.punycode.proofs.Rungs.{lower-other}
 use Rattle.punycode.proofs.Theorems.{ace-ldh, ace-injective}
-use Rattle.punycode.proofs.Rungs.{lower-low, lower-high}
 
 -- ---- each call has one result
 
 module _ {label before after after′ : List ℕ} {r r′ : Coded} where
   pub encodes-once : Encodes label before after r → Encodes label before after′ r′ → (after ≡ after′) × (r ≡ r′)
-  encodes-once u v = (u .buffer ∙ sym (v .buffer), u .answer ∙ sym (v .answer))
+  encodes-once u v = (decided (u .buffer) (v .buffer), decided (u .answer) (v .answer))
 
 pub encoding-once : {octets l k : List ℕ} → Encoding octets l → Encoding octets k → l ≡ k
 encoding-once {octets} {l} {k} u v = ace-injective l k (u .fit) (v .fit) (u .is ∙ sym (v .is))
 
-decoding-once : {octets : List ℕ} {room n n′ : ℕ} {l l′ : List ℕ} → Decoding octets room n l → Decoding octets room n′ l′ → (n ≡ n′) × (l ≡ l′)
+decoding-once : {octets : List ℕ} {room n n′ : ℕ} {l l′ : List ℕ} → DecoderSays octets room n l → DecoderSays octets room n′ l′ → (n ≡ n′) × (l ≡ l′)
 decoding-once (small h) (small g) = (refl, refl)
 decoding-once (small h) (taken l g e) = absurd (omega arith)
 decoding-once (small h) (left g f) = absurd (omega arith)
@@ -50,12 +50,12 @@ module _ {octets before after after′ : List ℕ} {r r′ : Coded} where
 
 -- ---- there and back
 
-upper-not : (c : ℕ) → 65 ≤ c → c < 91 → ldh c ≡ false
+upper-not : (c : ℕ) → 65 ≤ c → c ≤ 90 → ldh c ≡ false
 unfolding ldh alnum
 upper-not c h g = rw (outside 0x61 0x7A c (λ p q. omega arith), outside 0x30 0x39 c (λ p q. omega arith), ne-eqb c 45 (omega arith))
 
 lower-ldh : (c : ℕ) → ldh c ≡ true → c ≡ lower c
-lower-ldh c h = split c 65 (lower-low c) (λ g. split c 91 (λ l. clash h (upper-not c g l)) (lower-high c))
+lower-ldh c h = lower-other c (λ g l. clash h (upper-not c g l))
 
 lower-all : (l : List ℕ) → allOf ldh l ≡ true → l ≡ map lower l
 unfolding allOf

@@ -1,12 +1,12 @@
 -- What the calls answer and leave in the buffer that is lent to them: document 01, "Numbers a call may answer" and "Coder and decoder".
 use mathlib.Core.Path.{_≡_}
-use mathlib.Core.Bool.{Bool, true, false}
+use mathlib.Core.Bool.{true}
 use mathlib.Core.List.{List, [], map}
 use Prim.Native.Nat.{ℕ, _+_, _≤_, _<_}
 use lib.Dec.{leb, ltb, eqb}
 use lib.ListN.{length}
-use Rattle.lists.specs.Tests.{pick, within}
 use Rattle.lists.specs.Front.{written}
+use Rattle.lists.specs.Tests.{pick, within}
 use Rattle.punycode.specs.Punycode.{ace, encodable}
 use Rattle.punycode.specs.declared.Coded.{Coded}
 
@@ -46,15 +46,16 @@ pub record Encoding (octets l : List ℕ) : Type 0 where
   pub is : ace l ≡ map lower octets
   pub short : length octets ≤ most
 
--- 1 and nothing written: the buffer is too short; 0 and l written: the octets are the encoding of l; 15 and nothing written: they are the encoding of no label
-pub data Decoding (octets : List ℕ) (room : ℕ) : ℕ → List ℕ → Type 0 where
-  small : room < most → Decoding octets room 1 []
-  taken : (l : List ℕ) → most ≤ room → Encoding octets l → Decoding octets room 0 l
-  left : most ≤ room → ((l : List ℕ) → Encoding octets l → ⊥) → Decoding octets room 15 []
+-- the number, and what is written: 1 and nothing where the buffer is too short; 0 and l where the octets are the encoding of l;
+-- 15 and nothing where they are the encoding of no label
+pub data DecoderSays (octets : List ℕ) (room : ℕ) : ℕ → List ℕ → Type 0 where
+  small : room < most → DecoderSays octets room 1 []
+  taken : (l : List ℕ) → most ≤ room → Encoding octets l → DecoderSays octets room 0 l
+  left : most ≤ room → ((l : List ℕ) → Encoding octets l → ⊥) → DecoderSays octets room 15 []
 
 pub record Decodes (octets before after : List ℕ) (r : Coded) : Type 0 where
   pub number : ℕ
   pub label : List ℕ
-  pub says : Decoding octets (length before) number label
+  pub says : DecoderSays octets (length before) number label
   pub answer : r ≡ answered number label
   pub buffer : after ≡ written label before

@@ -1,5 +1,5 @@
 -- RFC 3492, the decoding procedure of section 6.2, an octet at a time: how the code finds a label. No public statement rests on it.
-use mathlib.Core.Bool.{Bool, true, false, _&&_}
+use mathlib.Core.Bool.{Bool, _&&_}
 use mathlib.Core.List.{List, [], _∷_, _++_}
 use mathlib.Core.Option.{Option, none, some}
 use Prim.Native.Nat.{ℕ, _+_, _-_, _*_, _/_, _%_}

@@ -1,12 +1,12 @@
 -- What the inner functions say of themselves. No public statement rests on it.
-use mathlib.Core.Bool.{Bool, true, false}
+use mathlib.Core.Bool.{Bool}
 use mathlib.Core.List.{List, _++_}
 use mathlib.Core.Option.{Option, none, some}
 use Prim.Native.Nat.{ℕ, _*_, _≤_, _<_}
 use lib.ListN.{take}
 use Rattle.lists.specs.Tests.{pick}
-use Rattle.punycode.specs.Punycode.{Enc, limit}
 use Rattle.punycode.specs.Decoding.{Dec, reading, refused}
+use Rattle.punycode.specs.Punycode.{Enc, limit}
 use Rattle.punycode.specs.declared.coder.State.{State}
 use Rattle.punycode.specs.declared.decoder.Reader.{Reader}
 
@@ -26,13 +26,12 @@ held s text = record { delta = s .delta; bias = s .bias; h = s .h; out = take (s
 unfoldable pub read : Reader → List ℕ → Dec
 read s text = pick (s .ok) (reading (s .n) (s .bias) (take (s .len) text) (s .oldi) (s .i) (s .w) (s .k)) refused
 
--- no step overflows 32 bits: 35 * 64 * 0x110000 is below 2 ^ 32
+-- what bounds the numbers of the next step
 pub record Sound (s : Reader) : Type 0 where
   pub n-low : s .n < limit
   pub len-low : s .len ≤ 63
   pub i-low : s .i < 64 * limit
   pub i-from : s .oldi ≤ s .i
-  pub w-low : s .w ≤ 35 * (64 * limit)
 
 -- a label, or none
 unfoldable pub answer : Bool → List ℕ → Option (List ℕ)

@@ -7,16 +7,16 @@ use Prim.Native.Nat.{ℕ}
 use lib.Dec.{eqb}
 use lib.ListN.{replicate}
 use Rattle.lists.specs.Tests.{within, allOf, anyOf, same}
-use Rattle.punycode.specs.Punycode
 use Rattle.punycode.specs.Calls.{most, coderNumber, coderWrites}
+use Rattle.punycode.specs.Punycode
 
 pub record Sample : Type 0 where
   pub label : List ℕ
   pub output : List ℕ
 
 -- the coder writes "xn--" and the output
-unfoldable pub written : Sample → Bool
-written s = same (coderWrites (s .label) most) (0x78 ∷ 0x6E ∷ 0x2D ∷ 0x2D ∷ s .output)
+unfoldable pub codedAs : Sample → Bool
+codedAs s = same (coderWrites (s .label) most) (0x78 ∷ 0x6E ∷ 0x2D ∷ 0x2D ∷ s .output)
 
 unfoldable pub samples : List Sample
 samples =
@@ -58,8 +58,8 @@ pub record Refusal : Type 0 where
   pub label : List ℕ
   pub number : ℕ
 
-unfoldable pub refused : Refusal → Bool
-refused s = eqb (coderNumber (s .label) most) (s .number)
+unfoldable pub refusedAs : Refusal → Bool
+refusedAs s = eqb (coderNumber (s .label) most) (s .number)
 
 unfoldable pub refusals : List Refusal
 refusals =
@@ -74,6 +74,6 @@ refusals =
     record { label = 0x110000 ∷ []; number = 13 } ∷
     []
 
-computed : (allOf written samples ≡ true) × (allOf refused refusals ≡ true)
-unfolding samples written refusals refused allOf anyOf within same coderNumber coderWrites Punycode.ace Punycode.encodable Punycode.allowed Punycode.wide Punycode.ldh Punycode.alnum Punycode.encode Punycode.extended Punycode.initial Punycode.passes Punycode.points Punycode.point Punycode.least Punycode.nearer Punycode.add Punycode.emit Punycode.varint Punycode.threshold Punycode.digit Punycode.adapt Punycode.damped Punycode.adaptLoop Punycode.below Punycode.delimiter
+computed : (allOf codedAs samples ≡ true) × (allOf refusedAs refusals ≡ true)
+unfolding samples codedAs refusals refusedAs allOf anyOf within same coderNumber coderWrites Punycode.ace Punycode.encodable Punycode.allowed Punycode.wide Punycode.ldh Punycode.alnum Punycode.encode Punycode.extended Punycode.initial Punycode.passes Punycode.points Punycode.point Punycode.least Punycode.nearer Punycode.add Punycode.emit Punycode.varint Punycode.threshold Punycode.digit Punycode.adapt Punycode.damped Punycode.adaptLoop Punycode.below Punycode.delimiter
 computed = (refl, refl)

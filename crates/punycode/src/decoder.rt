@@ -1,9 +1,14 @@
 // The decoding procedure, RFC 3492, section 6.2, which finds a label; its encoding is then compared with the octets.
+use crate::bias::BASE;
+use crate::bias::BOUND;
+use crate::bias::INITIAL_BIAS;
+use crate::bias::INITIAL_N;
+use crate::bias::LIMIT;
 use crate::bias::adapt;
 use crate::bias::threshold;
 use crate::coder::ace;
 use crate::label::encodable;
-ghost use Prim.Native.Nat.{_+_, _-_, _*_, _≤_, _<_};
+ghost use Prim.Native.Nat.{min, _+_, _-_, _*_, _≤_, _<_};
 ghost use mathlib.Core.Bool.{true, false, _&&_};
 ghost use mathlib.Core.List.{map};
 ghost use mathlib.Core.Path.{_≡_};
@@ -17,18 +22,36 @@ fn value(c: u8) -> u32
     ensures { λ r. ⌜ (r ≡ Decoding.value c) × (r ≤ 36) ⌝ }
 {
     if c < 48 {
-        return 36;
+        return BASE;
     }
     if c < 58 {
         return c as u32 - 48 + 26;
     }
     if c < 97 {
-        return 36;
+        return BASE;
     }
     if c < 123 {
         return c as u32 - 97;
     }
-    36
+    BASE
+}
+
+// A digit times its weight, which stays below 2 ^ 32: no more than 64 * 0x110000 is told of it.
+fn weighed(d: u32, w: u32) -> u32
+    requires { ⌜ d < 36 ⌝ }
+    ensures { λ r. ⌜ r ≡ min (d * w) 0x4400000 ⌝ }
+{
+    if d == 0 {
+        return 0;
+    }
+    if w >= BOUND {
+        return BOUND;
+    }
+    let p = d * w;
+    if p >= BOUND {
+        return BOUND;
+    }
+    p
 }
 
 // `x` at `p` of the first `len`.
@@ -77,11 +100,12 @@ fn stopped(s: Reader) -> Reader
 
 fn place(s: Reader, i: u32, out: &mut [u32]) -> Reader
     requires { ⌜ (length (now out) ≡ 64) × Sound s × (s .len < 63) × (s .oldi ≤ i) × (i < 0x4400000) ⌝ }
-    ensures { λ r. ⌜ Sound r × (r .len ≤ s .len + 1) × (r .k ≤ s .k + 36) × (read r (now (out .exit)) ≡ Decoding.place (s .n) (take (s .len) (now (out .entry))) (s .oldi) i) ⌝ }
+    ensures { λ r. ⌜ Sound r × (r .len ≤ s .len + 1) × (r .k ≤ s .k + 36)
+        × (read r (now (out .exit)) ≡ Decoding.place (s .n) (take (s .len) (now (out .entry))) (s .oldi) i) ⌝ }
 {
     let len = s.len as u32 + 1;
     let m = s.n + i / len;
-    if m >= 0x110000 {
+    if m >= LIMIT {
         return stopped(s);
     }
     let p = i % len;
@@ -95,27 +119,27 @@ fn place(s: Reader, i: u32, out: &mut [u32]) -> Reader
         oldi: p + 1,
         i: p + 1,
         w: 1,
-        k: 36,
+        k: BASE,
     }
 }
 
 fn octet(c: u8, s: Reader, out: &mut [u32]) -> Reader
     requires { ⌜ (length (now out) ≡ 64) × Sound s × (s .len < 63) × (s .k < 0x10000) ⌝ }
-    ensures { λ r. ⌜ Sound r × (r .len ≤ s .len + 1) × (r .k ≤ s .k + 36) × (read r (now (out .exit)) ≡ Decoding.octet c (read s (now (out .entry)))) ⌝ }
+    ensures { λ r. ⌜ Sound r × (r .len ≤ s .len + 1) × (r .k ≤ s .k + 36)
+        × (read r (now (out .exit)) ≡ Decoding.octet c (read s (now (out .entry)))) ⌝ }
 {
     let ok = s.ok;
     if !ok {
         return s;
     }
     let d = value(c);
-    if d >= 36 {
+    if d >= BASE {
         return stopped(s);
     }
-    let j = s.i as u64 + d as u64 * s.w as u64;
-    if j >= 0x4400000 {
+    let i = s.i + weighed(d, s.w);
+    if i >= BOUND {
         return stopped(s);
     }
-    let i = j as u32;
     let t = threshold(s.k, s.bias);
     if d < t {
         return place(s, i, out);
@@ -127,8 +151,8 @@ fn octet(c: u8, s: Reader, out: &mut [u32]) -> Reader
         len: s.len,
         oldi: s.oldi,
         i: i,
-        w: s.w * (36 - t),
-        k: s.k + 36,
+        w: s.w * (BASE - t),
+        k: s.k + BASE,
     }
 }
 
@@ -203,13 +227,13 @@ fn procedure(e: &[u8], out: &mut [u32]) -> Outcome
     widen(e, b, out);
     let first = Reader {
         ok: true,
-        n: 128,
-        bias: 72,
+        n: INITIAL_N,
+        bias: INITIAL_BIAS,
         len: b,
         oldi: 0,
         i: 0,
         w: 1,
-        k: 36,
+        k: BASE,
     };
     let s = octets(e, k, first, out);
     Outcome {

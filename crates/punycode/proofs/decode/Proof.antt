@@ -1,11 +1,13 @@
+-- `decode` meets its contract: each return is one of the answers, by the room, the length, and whether a label is found.
+-- Assumes nothing.
 use mathlib.Core.Path.{_≡_, refl, sym, ap, _∙_}
 use native.Mathlib.Omega.{arith}
 use lib.ListN.{length, take}
 use lib.Seq.{length-take-le}
+use borrow.Author.Needs.{needs}
 use borrow.Author.Tests.{not-true, not-false}
 use Rattle.punycode.specs.Decoding.{found}
 use Rattle.punycode.proofs.Answers.{from-start, decodes-small, decodes-long, decodes-left, decodes-taken}
-use borrow.Author.Needs.{needs}
 use Rattle.punycode.proofs.decode.Statement.{statement}
 use Rattle.punycode.proofs.decode.Tie as tie
 

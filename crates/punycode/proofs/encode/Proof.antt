@@ -1,10 +1,12 @@
-use mathlib.Core.Path.{_≡_, refl, sym, ap, _∙_}
+-- `encode` meets its contract: each return is one of the answers, by the room, whether the label is encodable, and the length of its encoding.
+-- Assumes nothing.
+use mathlib.Core.Path.{_≡_, refl, sym, _∙_}
 use native.Mathlib.Omega.{arith}
 use lib.ListN.{length, take}
 use lib.Seq.{length-take-le}
+use borrow.Author.Needs.{needs}
 use borrow.Author.Tests.{not-true, not-false}
 use Rattle.punycode.proofs.Answers.{from-start, encodes-short, encodes-unfit, encodes-long, encodes-done}
-use borrow.Author.Needs.{needs}
 use Rattle.punycode.proofs.encode.Statement.{statement}
 use Rattle.punycode.proofs.encode.Tie as tie
 

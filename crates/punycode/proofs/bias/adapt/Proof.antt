@@ -1,9 +1,9 @@
-use native.Mathlib.Omega.{arith}
-use Prim.Native.Nat.{ℕ, _≤_, _<_, _+_, _-_, _*_}
-use mathlib.Core.Path.{_≡_, refl, sym, ap, _∙_}
-use Rattle.punycode.specs.Punycode.{adapt}
+-- `adapt` meets its contract: the damped delta and the scaling are the definition's own two steps, and neither is more than delta.
+-- Assumes nothing.
 use native.Mathlib.Nat.{div-le-self}
+use native.Mathlib.Omega.{arith}
 use borrow.Author.Needs.{needs}
+use Rattle.punycode.specs.Punycode.{adapt}
 use Rattle.punycode.proofs.bias.adapt.Statement.{statement}
 use Rattle.punycode.proofs.bias.adapt.Tie as tie
 

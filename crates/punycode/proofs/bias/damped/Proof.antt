@@ -1,5 +1,6 @@
+-- `damped` meets its contract: the branch is the definition's.
+-- Assumes nothing.
 use native.Mathlib.Omega.{arith}
-use borrow.Author.Needs.{needs}
 use Rattle.punycode.specs.Punycode.{damped}
 use Rattle.punycode.proofs.bias.damped.Statement.{statement}
 use Rattle.punycode.proofs.bias.damped.Tie as tie

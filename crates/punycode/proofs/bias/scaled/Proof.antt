@@ -1,10 +1,11 @@
+-- `scaled` meets its contract: at each turn the definition's loop from here gives the same answer, and k grows by no more than delta falls.
+-- Assumes nothing.
+use mathlib.Core.Path.{_≡_, refl, sym, _∙_}
+use Prim.Native.Nat.{ℕ, _≤_, _+_, _*_}
+use native.Mathlib.Nat.{div-le-self}
 use native.Mathlib.Omega.{arith}
-use borrow.Author.Needs.{needs}
-use Prim.Native.Nat.{ℕ, _≤_, _<_, _+_, _-_, _*_}
-use mathlib.Core.Path.{_≡_, refl, sym, ap, _∙_}
 use Rattle.punycode.specs.Punycode.{adaptLoop}
 use Rattle.punycode.proofs.Clipped.{adapt-next, adapt-end}
-use native.Mathlib.Nat.{div-le-self}
 use Rattle.punycode.proofs.bias.scaled.Statement.{statement}
 use Rattle.punycode.proofs.bias.scaled.Tie as tie
 

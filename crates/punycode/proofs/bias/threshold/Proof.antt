@@ -1,3 +1,5 @@
+-- `threshold` meets its contract: each return is one of the three cases of the threshold.
+-- Assumes nothing.
 use native.Mathlib.Omega.{arith}
 use borrow.Author.Needs.{needs}
 use Rattle.punycode.proofs.Reading.{threshold-tmin, threshold-tmax, threshold-between}

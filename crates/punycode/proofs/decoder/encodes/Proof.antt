@@ -1,8 +1,10 @@
+-- `encodes` meets its contract: the first 64 octets of the encoding are the octets exactly where the whole encoding is, as these are at most 63.
+-- Assumes nothing.
 use mathlib.Core.Path.{sym, _∙_}
 use native.Mathlib.Omega.{arith}
+use borrow.Author.Needs.{needs}
 use borrow.Author.Tests.{not-true, not-false}
 use Rattle.punycode.proofs.Answers.{from-start, encodes-no, encodes-if}
-use borrow.Author.Needs.{needs}
 use Rattle.punycode.proofs.decoder.encodes.Statement.{statement}
 use Rattle.punycode.proofs.decoder.encodes.Tie as tie
 

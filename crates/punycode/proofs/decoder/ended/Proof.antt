@@ -1,3 +1,5 @@
+-- `ended` meets its contract: the branch is the conjunction's.
+-- Assumes nothing.
 use borrow.Author.Needs.{needs}
 use Rattle.punycode.proofs.decoder.ended.Statement.{statement}
 use Rattle.punycode.proofs.decoder.ended.Tie as tie

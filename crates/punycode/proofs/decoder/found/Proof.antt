@@ -1,10 +1,12 @@
+-- `found` meets its contract: the procedure's label is kept where its encoding is the octets.
+-- Assumes nothing.
 use mathlib.Core.Path.{sym, ap, _∙_}
 use native.Mathlib.Omega.{arith}
 use lib.ListN.{take}
+use borrow.Author.Needs.{needs}
 use borrow.Author.Tests.{not-true, not-false}
 use Rattle.punycode.specs.Decoding.{decode, encodes}
 use Rattle.punycode.proofs.Answers.{to-end, from-start, found-short, found-none, found-some}
-use borrow.Author.Needs.{needs}
 use Rattle.punycode.proofs.decoder.found.Statement.{statement}
 use Rattle.punycode.proofs.decoder.found.Tie as tie
 

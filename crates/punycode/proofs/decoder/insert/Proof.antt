@@ -1,8 +1,9 @@
-use lib.ListN.{length-set}
+-- `insert` meets its contract: at each turn the element carried and what is not yet moved up are the list from there on.
+-- Assumes nothing.
+use Prim.Native.Nat.{_-_}
 use native.Mathlib.Omega.{arith}
+use lib.ListN.{length-set}
 use borrow.Author.Needs.{needs}
-use Prim.Native.Nat.{ℕ, _≤_, _<_, _+_, _-_, _*_}
-use mathlib.Core.Path.{_≡_, refl, sym, ap, _∙_}
 use Rattle.punycode.proofs.Machine.{Moving, moving-first, moving-next, moving-last}
 use Rattle.punycode.proofs.decoder.insert.Statement.{statement}
 use Rattle.punycode.proofs.decoder.insert.Tie as tie

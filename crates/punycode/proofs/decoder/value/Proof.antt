@@ -1,11 +1,13 @@
-use Rattle.punycode.proofs.Rungs.{value-low, value-digit, value-mid, value-letter, value-high}
+-- `value` meets its contract: each return is one of the rungs of the tests for a letter and for a digit.
+-- Assumes nothing.
 use native.Mathlib.Omega.{arith}
 use borrow.Author.Needs.{needs}
+use Rattle.punycode.proofs.Rungs.{value-digit, value-letter, value-none}
 use Rattle.punycode.proofs.decoder.value.Statement.{statement}
 use Rattle.punycode.proofs.decoder.value.Tie as tie
 
 returns : tie.Need-returns
-returns c = (search (value-low, needs), omega arith)
+returns c = (value-none _ (λ p q. omega arith) (λ p q. omega arith), omega arith)
 
 sub-result : tie.Need-sub-result
 sub-result c = search needs
@@ -17,7 +19,7 @@ returns-2 : tie.Need-returns-2
 returns-2 c = (search (value-digit, needs), omega arith)
 
 returns-3 : tie.Need-returns-3
-returns-3 c = (search (value-mid, needs), omega arith)
+returns-3 c = (value-none _ (λ p q. omega arith) (λ p q. omega arith), omega arith)
 
 sub-result-2 : tie.Need-sub-result-2
 sub-result-2 c = search needs
@@ -26,7 +28,7 @@ returns-4 : tie.Need-returns-4
 returns-4 c = (search (value-letter, needs), omega arith)
 
 returns-5 : tie.Need-returns-5
-returns-5 c = (search (value-high, needs), omega arith)
+returns-5 c = (value-none _ (λ p q. omega arith) (λ p q. omega arith), omega arith)
 
 pub value-spec : {M : Type 1} → statement M
 value-spec =

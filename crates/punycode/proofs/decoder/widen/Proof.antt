@@ -1,10 +1,10 @@
-use lib.ListN.{length-set}
+-- `widen` meets its contract: at each turn the entries stored are those of the octets.
+-- Assumes nothing.
+use mathlib.Core.Path.{_≡_, refl}
+use Prim.Native.Nat.{_≤_, _<_, _-_}
 use native.Mathlib.Omega.{arith}
-use borrow.Author.Needs.{needs}
-use Prim.Native.Nat.{ℕ, _≤_, _<_, _+_, _-_, _*_}
-use mathlib.Core.Path.{_≡_, refl, sym, ap, _∙_}
+use lib.ListN.{length-set, length, take}
 use Rattle.punycode.proofs.Machine.{stored-next}
-use lib.ListN.{length, take}
 use Rattle.punycode.proofs.decoder.widen.Statement.{statement}
 use Rattle.punycode.proofs.decoder.widen.Tie as tie
 

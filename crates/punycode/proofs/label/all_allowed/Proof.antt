@@ -1,12 +1,14 @@
-use mathlib.Core.Path.{_≡_, refl}
+-- `all_allowed` meets its contract: what is left of the label decides, at each turn.
+-- Assumes nothing.
+use mathlib.Core.Path.{_≡_}
 use Prim.Native.Nat.{_≤_, _-_}
 use native.Mathlib.Omega.{arith}
 use lib.ListN.{length, drop}
-use borrow.Author.Tests.{not-true, not-false}
-use Rattle.lists.specs.Tests.{allOf}
-use Rattle.lists.proofs.Scan.{all-here, all-on, all-end}
-use Rattle.punycode.specs.Punycode.{allowed}
 use borrow.Author.Needs.{needs}
+use borrow.Author.Tests.{not-true, not-false}
+use Rattle.lists.proofs.Scan.{all-here, all-on, all-end}
+use Rattle.lists.specs.Tests.{allOf}
+use Rattle.punycode.specs.Punycode.{allowed}
 use Rattle.punycode.proofs.label.all_allowed.Statement.{statement}
 use Rattle.punycode.proofs.label.all_allowed.Tie as tie
 

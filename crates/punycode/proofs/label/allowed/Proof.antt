@@ -1,5 +1,7 @@
-use Rattle.punycode.proofs.Rungs.{allowed-wide, allowed-ldh}
+-- `allowed` meets its contract: a code point is allowed as a scalar value or as a letter, digit or hyphen.
+-- Assumes nothing.
 use borrow.Author.Needs.{needs}
+use Rattle.punycode.proofs.Rungs.{allowed-wide, allowed-ldh}
 use Rattle.punycode.proofs.label.allowed.Statement.{statement}
 use Rattle.punycode.proofs.label.allowed.Tie as tie
 

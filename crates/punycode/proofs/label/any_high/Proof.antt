@@ -1,12 +1,14 @@
+-- `any_high` meets its contract: what is left of the label decides, at each turn.
+-- Assumes nothing.
 use mathlib.Core.Path.{_≡_, refl}
 use Prim.Native.Nat.{_≤_, _-_}
 use native.Mathlib.Omega.{arith}
 use lib.Dec.{leb}
 use lib.ListN.{length, drop}
-use borrow.Author.Tests.{le-leb, lt-leb}
-use Rattle.lists.specs.Tests.{anyOf}
-use Rattle.lists.proofs.Scan.{any-here, any-on, any-end}
 use borrow.Author.Needs.{needs}
+use borrow.Author.Tests.{le-leb, lt-leb}
+use Rattle.lists.proofs.Scan.{any-here, any-on, any-end}
+use Rattle.lists.specs.Tests.{anyOf}
 use Rattle.punycode.proofs.label.any_high.Statement.{statement}
 use Rattle.punycode.proofs.label.any_high.Tie as tie
 

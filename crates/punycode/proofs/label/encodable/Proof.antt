@@ -1,15 +1,17 @@
-use borrow.Author.Tests.{not-true, not-false}
+-- `encodable` meets its contract: each return is one of the tests, in order.
+-- Assumes nothing.
 use native.Mathlib.Omega.{arith}
-use Rattle.punycode.proofs.Rungs.{encodable-none, encodable-many, encodable-bad, encodable-rest}
 use borrow.Author.Needs.{needs}
+use borrow.Author.Tests.{not-true, not-false}
+use Rattle.punycode.proofs.Rungs.{encodable-size, encodable-bad, encodable-rest}
 use Rattle.punycode.proofs.label.encodable.Statement.{statement}
 use Rattle.punycode.proofs.label.encodable.Tie as tie
 
 returns : tie.Need-returns
-returns c = encodable-none _ (c .if1 .taken)
+returns c = encodable-size _ (λ p q. omega arith)
 
 returns-2 : tie.Need-returns-2
-returns-2 c = encodable-many _ (c .if2 .taken)
+returns-2 c = encodable-size _ (λ p q. omega arith)
 
 all-allowed-requires : tie.Need-all-allowed-requires
 all-allowed-requires c κs = search needs

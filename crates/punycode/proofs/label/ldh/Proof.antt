@@ -1,5 +1,7 @@
-use Rattle.punycode.proofs.Rungs.{ldh-hyphen, ldh-other}
+-- `ldh` meets its contract: a hyphen, or what is a letter or a digit.
+-- Assumes nothing.
 use borrow.Author.Needs.{needs}
+use Rattle.punycode.proofs.Rungs.{ldh-hyphen, ldh-other}
 use Rattle.punycode.proofs.label.ldh.Statement.{statement}
 use Rattle.punycode.proofs.label.ldh.Tie as tie
 

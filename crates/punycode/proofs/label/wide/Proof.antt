@@ -1,5 +1,7 @@
-use Rattle.punycode.proofs.Rungs.{wide-basic, wide-low, wide-surrogate, wide-high}
+-- `wide` meets its contract: each return is one of the rungs of the tests for a scalar value.
+-- Assumes nothing.
 use borrow.Author.Needs.{needs}
+use Rattle.punycode.proofs.Rungs.{wide-basic, wide-low, wide-surrogate, wide-high}
 use Rattle.punycode.proofs.label.wide.Statement.{statement}
 use Rattle.punycode.proofs.label.wide.Tie as tie
 
