@@ -1,0 +1,133 @@
+-- What a call that writes answers: the rows that the judge passed over are the rules, so an accepted name has its normal form in the
+-- judge's array, and a refused one leaves the buffer.
+-- Assumes nothing.
+use mathlib.Core.Path.{_≡_, refl, sym, ap, _∙_}
+use mathlib.Core.Bool.{Bool, true, false}
+use mathlib.Core.List.{List, [], _∷_, _++_}
+use Prim.Native.Nat.{ℕ, _-_, _≤_, _<_}
+use native.Mathlib.Omega.{arith}
+use lib.Dec.{ltb}
+use lib.ListN.{length, take, drop}
+use lib.Seq.{take-all}
+use borrow.Author.Tests.{ne-eqb, lt-ltb, le-ltb, ltb-false}
+use Rattle.lists.specs.Tests.{allOf, anyOf}
+use Rattle.lists.specs.Front.{written}
+use Rattle.lists.specs.Rows.{Row, row, Answer, first, given}
+use Rattle.lists.proofs.Fronts.{untouched}
+use Rattle.lists.proofs.Tables.{Clear, clear, clear-before, hit, passed-over, refusing, accepted-clear, given-all, given-none}
+use Rattle.normal.specs.Normal.{normalForm}
+use Rattle.normal.proofs.Laws.{no-longer}
+use Rattle.rules.specs.Labels.{labels}
+use Rattle.rules.specs.Permits.{Permits}
+use Rattle.rules.specs.Rules.{labelRows, nameRows, textRows, classOf, verdict, rules}
+use Rattle.rules.specs.declared.Class.{Class}
+use Rattle.rules.proofs.Steps.{refused-before}
+use Rattle.names.specs.Calls.{shown, padded, judged, checked, Answers, checkRows, Checks, uncoded, asciiForm, asciiRows, AsciiForms}
+use Rattle.names.specs.Steps.{refusedCall}
+use Rattle.names.specs.declared.Judged.{Judged}
+use Rattle.names.specs.declared.Checked.{Checked}
+use Rattle.names.proofs.Judging.{shown-whole, unpadded}
+
+-- ---- any call that writes
+
+module _ (rows : List Row) (text xs before : List ℕ) where
+  answers-no : {n p : ℕ} {r : Checked} → r ≡ refusedCall n p → first rows ≡ record { number = n; place = p } → (n ≡ 0 → ⊥)
+      → Answers rows text xs before before r
+  unfolding checked verdict
+  answers-no {n} {p} q e h =
+      let none = given-none (record { number = n; place = p }) xs h in
+      record { result = q ∙ rw (e, none, ne-eqb n 0 h); buffer = rw (e, none) (sym (untouched before)) }
+
+  answers-yes : {k : Class} {n : ℕ} {after : List ℕ} → first rows ≡ record { number = 0; place = 0 } → k ≡ classOf (labels (normalForm text))
+      → n ≡ length xs → after ≡ written xs before → Answers rows text xs before after (record { number = 0; place = 0; class = k; length = n })
+  unfolding checked verdict given
+  answers-yes e p q w = record { result = rw (e, p, q); buffer = rw e w }
+
+-- ---- an accepted name
+
+pub record Passed (P : Permits) (text : List ℕ) (j : Judged) : Type 0 where
+  pub clear : Clear (textRows P text)
+  pub class : j .class ≡ classOf (labels (normalForm text))
+  pub form : take (j .length - 0) (drop 0 (j .form)) ≡ normalForm text
+  pub size : j .length ≡ length (normalForm text)
+  pub in-array : j .length ≤ 256
+
+module _ (P : Permits) (text : List ℕ) {j : Judged} (e : j ≡ judged P text) where
+  number-is : j .number ≡ first (textRows P text) .number
+  unfolding judged rules verdict
+  number-is = ap (λ (x : Judged). x .number) e
+
+  place-is : j .place ≡ first (textRows P text) .place
+  unfolding judged rules verdict
+  place-is = ap (λ (x : Judged). x .place) e
+
+  answer-is : first (textRows P text) ≡ record { number = j .number; place = j .place }
+  answer-is = rw (number-is, place-is)
+
+  pub passed : j .number ≡ 0 → Passed P text j
+  unfolding judged rules verdict refusing allOf textRows nameRows labelRows
+  passed z =
+      let all = accepted-clear (textRows P text) refl (sym number-is ∙ z) in
+      let few : length text ≤ 256 = ltb-false 256 (length text) (all .1 .0) in
+      let shows = shown-whole text few in
+      let size : j .length ≡ length (normalForm text) = ap (λ (x : Judged). x .length) e ∙ ap length shows in
+      record {
+        clear = all;
+        class = ap (λ (x : Judged). x .class) e ∙ rw (sym number-is ∙ z);
+        form = rw (size, ap (λ (x : Judged). x .form) e, shows) (unpadded (normalForm text));
+        size = size;
+        in-array = omega (arith, no-longer text);
+      }
+
+-- ---- the check
+
+module _ (P : Permits) (text before : List ℕ) where
+  pub check-no-room : {r : Checked} → r ≡ refusedCall 1 0 → length before < 256 → Checks P text before before r
+  unfolding checkRows
+  check-no-room q h = answers-no _ text _ before q (hit 1 (ltb (length before) 256) 0 _ (lt-ltb (length before) 256 h)) (λ z. omega arith)
+
+  module _ (h : 256 ≤ length before) {j : Judged} (e : j ≡ judged P text) where
+    checking : first (checkRows P text (length before)) ≡ first (textRows P text)
+    unfolding checkRows
+    checking = passed-over 1 (ltb (length before) 256) 0 _ (le-ltb (length before) 256 h)
+
+    pub check-refused : {r : Checked} → r ≡ refusedCall (j .number) (j .place) → (j .number ≡ 0 → ⊥) → Checks P text before before r
+    check-refused q n = answers-no _ text _ before q (checking ∙ answer-is P text e) n
+
+    pub check-accepted : {after : List ℕ} (z : j .number ≡ 0)
+        → after ≡ written (take (length before) (take (j .length - 0) (drop 0 (j .form)))) before
+        → Checks P text before after (record { number = 0; place = 0; class = j .class; length = j .length })
+    check-accepted z w =
+        let p = passed P text e z in
+        let all : take (length before) (normalForm text) ≡ normalForm text = take-all (length before) (normalForm text) (omega (arith, p .size, p .in-array)) in
+        answers-yes _ text _ before (checking ∙ clear (textRows P text) (p .clear)) (p .class) (p .size) (w ∙ rw (p .form, all))
+
+-- ---- the whole ASCII form
+
+module _ (P : Permits) (text before : List ℕ) where
+  pub ascii-no-room : {r : Checked} → r ≡ refusedCall 1 0 → length before < 192 → AsciiForms P text before before r
+  unfolding asciiRows
+  ascii-no-room q h = answers-no _ text _ before q (hit 1 (ltb (length before) 192) 0 _ (lt-ltb (length before) 192 h)) (λ z. omega arith)
+
+  module _ (h : 192 ≤ length before) {j : Judged} (e : j ≡ judged P text) where
+    encoding : first (asciiRows P text (length before)) ≡ first (textRows P text ++ row 14 (anyOf (uncoded P) (labels (normalForm text))) 0 ∷ [])
+    unfolding asciiRows
+    encoding = passed-over 1 (ltb (length before) 192) 0 _ (le-ltb (length before) 192 h)
+
+    pub ascii-refused : {r : Checked} → r ≡ refusedCall (j .number) (j .place) → (j .number ≡ 0 → ⊥) → AsciiForms P text before before r
+    ascii-refused q n =
+        answers-no _ text _ before q
+        (encoding ∙ refused-before (textRows P text) _ (λ z. n (number-is P text e ∙ z)) ∙ answer-is P text e) n
+
+    module _ (p : Passed P text j) where
+      judged-on : first (asciiRows P text (length before)) ≡ first (row 14 (anyOf (uncoded P) (labels (normalForm text))) 0 ∷ [])
+      judged-on = encoding ∙ clear-before (textRows P text) _ (p .clear)
+
+      pub ascii-uncoded : {r : Checked} → r ≡ refusedCall 14 0 → anyOf (uncoded P) (labels (normalForm text)) ≡ true → AsciiForms P text before before r
+      ascii-uncoded z q = answers-no _ text _ before z (judged-on ∙ hit 14 (anyOf (uncoded P) (labels (normalForm text))) 0 [] q) (λ z. omega arith)
+
+      pub ascii-accepted : {n : ℕ} {after : List ℕ} → anyOf (uncoded P) (labels (normalForm text)) ≡ false → n ≡ length (asciiForm P (normalForm text))
+          → after ≡ written (asciiForm P (normalForm text)) before
+          → AsciiForms P text before after (record { number = 0; place = 0; class = j .class; length = n })
+      ascii-accepted q s w =
+          answers-yes _ text _ before (judged-on ∙ clear (row 14 (anyOf (uncoded P) (labels (normalForm text))) 0 ∷ []) (q, tt)) (p .class) s w

@@ -1,0 +1,262 @@
+-- The whole ASCII form, piece by piece: each turn puts the ASCII form of one label and a period, and what is put with what is left
+-- to put is the whole. An accepted name has two or three labels of at most 63 octets each, so that 192 are enough.
+-- Assumes nothing.
+use mathlib.Core.Path.{_≡_, refl, sym, ap, _∙_}
+use mathlib.Core.Bool.{Bool, true, false, not, _&&_, _||_}
+use mathlib.Core.List.{List, [], _∷_, _++_, map, append-assoc, append-nil}
+use mathlib.Core.Logic.{⊎-elim}
+use Prim.Native.Nat.{ℕ, zero, suc, _+_, _-_, _*_, _≤_, _<_}
+use native.Mathlib.Numerals.{add-one}
+use native.Mathlib.Omega.{arith}
+use lib.Dec.{eqb, leb, ltb}
+use lib.ListN.{length, take, drop, getD, set, length-append, length-drop, length-take, drop-of-length-le}
+use lib.Seq.{paste, paste-suc, take-all, take-at, drop-at, drop-drop, set-split, append-snoc, length-take-le}
+use borrow.Author.Tests.{eq-eqb, ne-eqb, le-ltb, leb-true, le-leb, ltb-true, lt-ltb, eqb-true, not-true, not-false}
+use Rattle.lists.specs.Tests.{pick, allOf, anyOf, firstOf}
+use Rattle.lists.specs.Front.{written}
+use Rattle.lists.proofs.Laws.{both, clash, lt-or-le}
+use Rattle.lists.proofs.Fronts.{front}
+use Rattle.punycode.specs.Punycode.{ace, encodable}
+use Rattle.punycode.specs.Calls.{coderNumber, coderWrites, Encodes}
+use Rattle.punycode.specs.declared.Coded.{Coded}
+use Rattle.rules.specs.Labels.{period, labels, join}
+use Rattle.rules.specs.Permits.{Permits}
+use Rattle.rules.specs.Rules.{isJapanese}
+use Rattle.rules.proofs.Cuts.{Labelled, none, cut, held, labelled, ended, last-from, first-from}
+use Rattle.names.specs.Calls.{asciiLabel, asciiForm, uncoded}
+use Rattle.names.specs.Steps.{octet, writable, Writable, Puts, Tries}
+use Rattle.names.specs.declared.ascii.Put.{Put}
+
+-- ---- pieces
+
+-- one piece more
+next : {xs piece out₀ out₁ out₂ : List ℕ} {n r : ℕ} → Puts xs out₀ out₁ 0 n → Puts piece out₁ out₂ n r → Puts (xs ++ piece) out₀ out₂ 0 r
+next {xs} {piece} {out₀} {out₁} {out₂} {n} {r} w p =
+    let k : ℕ = length piece in
+    let c : length xs ≡ n = omega (arith, w .place) in
+    let at-front : take n out₁ ≡ xs = ap (take n) (w .buffer) ∙ take-at xs (drop n out₀) n c in
+    let at-back : drop n out₁ ≡ drop n out₀ = ap (drop n) (w .buffer) ∙ drop-at xs (drop n out₀) n c in
+    let rest : drop (n + k) out₁ ≡ drop (n + k) out₀ = sym (drop-drop k n out₁) ∙ ap (drop k) at-back ∙ drop-drop k n out₀ in
+    record {
+      place = omega (arith, length-append xs piece, w .place, p .place);
+      buffer = p .buffer ∙ rw (at-front, p .place, rest) (sym (append-assoc xs piece (drop (n + k) out₀)));
+    }
+
+put-one : (out : List ℕ) (n b : ℕ) → n < length out → Puts (b ∷ []) out (set out n b) n (n + 1)
+put-one out n b h = record { place = refl; buffer = rw add-one (set-split out n b h) }
+
+-- a piece that has room leaves the buffer as long as it was
+puts-length : {xs out₀ out : List ℕ} {n : ℕ} → Puts xs out₀ out 0 n → n ≤ length out₀ → length out ≡ length out₀
+puts-length {xs} {out₀} {out} {n} w h = omega (arith, ap length (w .buffer), length-append xs (drop n out₀), length-drop n out₀, w .place)
+
+-- ---- an ASCII label
+
+pub octet-at : (l : List ℕ) (i : ℕ) → allOf octet l ≡ true → i < length l → getD l i 0 < 0x100
+unfolding allOf octet
+octet-at [] i e h = absurd (omega arith)
+octet-at (x ∷ xs) zero e h = ltb-true x 0x100 (both (ltb x 0x100) (allOf octet xs) e .0)
+octet-at (x ∷ xs) (suc i) e h = octet-at xs i (both (ltb x 0x100) (allOf octet xs) e .1) (omega arith)
+
+pub plain-turn : (out₀ out l : List ℕ) (n i : ℕ) → n + length l ≤ length out₀ → i < length l → out ≡ paste out₀ n l i
+    → set out (n + i) (getD l i 0) ≡ paste out₀ n l (i + 1)
+plain-turn out₀ out l n i h g e = rw (e, add-one i) (paste-suc out₀ n l i 0 (omega arith) g)
+
+pub plain-end : (out₀ out l : List ℕ) (n i : ℕ) → i ≤ length l → length l ≤ i → out ≡ paste out₀ n l i → Puts l out₀ out n (n + i)
+plain-end out₀ out l n i h g e = record {
+  place = omega arith;
+  buffer = e ∙ rw (take-all i l g) (append-assoc (take n out₀) l (drop (n + i) out₀));
+}
+
+-- ---- a label that is coded
+
+coder-room : (l : List ℕ) (room : ℕ) → 63 ≤ room → coderNumber l room ≡ coderNumber l 63
+unfolding coderNumber
+coder-room l room h = rw (le-ltb room 63 h)
+
+coder-short : (l : List ℕ) → coderNumber l 63 ≡ 0 → length (ace l) ≤ 63
+unfolding coderNumber
+coder-short l e = go (encodable l) (leb (length (ace l)) 63) refl e
+  where
+    go : (b t : Bool) → leb (length (ace l)) 63 ≡ t → _≡_ {A = ℕ} (pick b (pick t 0 14) 13) 0 → length (ace l) ≤ 63
+    go true true p e = leb-true (length (ace l)) 63 p
+    go true false p e = absurd (omega arith)
+    go false t p e = absurd (omega arith)
+
+-- the coder is lent the buffer from `at` on, and leaves `last` there
+module _ (l out last : List ℕ) (at : ℕ) (h : at + 63 ≤ length out) {k : Coded} (e : Encodes l (take (length out - at) (drop at out)) last k) where
+  part : take (length out - at) (drop at out) ≡ drop at out
+  part = take-all (length out - at) (drop at out) (omega (arith, length-drop at out))
+
+  number-is : k .number ≡ coderNumber l 63
+  number-is =
+      ap (λ (x : Coded). x .number) (e .answer)
+      ∙ coder-room l (length (take (length out - at) (drop at out))) (omega (arith, ap length part, length-drop at out))
+
+  pub coded-no : {after : List ℕ} → (k .number ≡ 0 → ⊥) → Tries (eqb (coderNumber l 63) 0) (ace l) out after at (record { coded = false; at = at })
+  coded-no n = record { coded = sym (ne-eqb (coderNumber l 63) 0 (λ z. n (number-is ∙ z))); put = λ p. clash p refl }
+
+  module _ (z : k .number ≡ 0) where
+    writes-is : coderWrites l (length (take (length out - at) (drop at out))) ≡ ace l
+    unfolding coderWrites
+    writes-is = rw (eq-eqb _ 0 (sym (ap (λ (x : Coded). x .number) (e .answer)) ∙ z))
+
+    length-is : k .length ≡ length (ace l)
+    length-is = ap (λ (x : Coded). x .length) (e .answer) ∙ ap length writes-is
+
+    pub coded-fits : at + k .length ≤ length out
+    coded-fits = omega (arith, length-is, coder-short l (sym number-is ∙ z))
+
+    pub coded-yes : Tries (eqb (coderNumber l 63) 0) (ace l) out (take at out ++ (last ++ drop (length out - at) (drop at out))) at
+        (record { coded = true; at = at + k .length })
+    unfolding written
+    coded-yes =
+        let none-after : drop (length out - at) (drop at out) ≡ [] = drop-of-length-le (drop at out) {i = length out - at} (omega (arith, length-drop at out)) in
+        let left : last ≡ ace l ++ drop (at + length (ace l)) out = e .buffer ∙ rw (writes-is, part, drop-drop (length (ace l)) at out) in
+        record {
+          coded = sym (eq-eqb (coderNumber l 63) 0 (sym number-is ∙ z));
+          put = λ p. record { place = rw length-is; buffer = rw (none-after, append-nil last, length-is, left) };
+        }
+
+-- ---- a label
+
+not-not : (b : Bool) → b ≡ not (not b)
+not-not true = refl
+not-not false = refl
+
+module _ (P : Permits) (l : List ℕ) {j : Bool} (e : j ≡ isJapanese P l) where
+  pub label-coded : {before after : List ℕ} {at : ℕ} {r : Put} → j ≡ true → Tries (eqb (coderNumber l 63) 0) (ace l) before after at r
+      → Tries (not (uncoded P l)) (asciiLabel P l) before after at r
+  unfolding uncoded asciiLabel
+  label-coded p t = record { coded = t .coded ∙ rw (← e, p) (not-not (eqb (coderNumber l 63) 0)); put = λ q. rw (← e, p) (t .put q) }
+
+  module _ (p : j ≡ false) where
+    pub label-plain : {before after : List ℕ} {at r : ℕ} → Puts l before after at r
+        → Tries (not (uncoded P l)) (asciiLabel P l) before after at (record { coded = true; at = r })
+    unfolding uncoded asciiLabel
+    label-plain t = record { coded = rw (← e, p); put = λ q. rw (← e, p) t }
+
+    pub plain-fits : writable P l ≡ true → (allOf octet l ≡ true) × (length l ≤ 63)
+    unfolding writable
+    plain-fits w =
+        let b = both (leb (length l) 63) (allOf octet l) (rw (← e, p) at w) in
+        (b .1, leb-true (length l) 63 (b .0))
+
+-- at most 63 octets
+label-size : (P : Permits) (l : List ℕ) → writable P l ≡ true → uncoded P l ≡ false → length (asciiLabel P l) ≤ 63
+unfolding uncoded asciiLabel
+label-size P l w u = go (isJapanese P l) refl u
+  where
+    go : (j : Bool) → j ≡ isJapanese P l → j && not (eqb (coderNumber l 63) 0) ≡ false → length (pick j (ace l) l) ≤ 63
+    go true e u = coder-short l (eqb-true (coderNumber l 63) 0 (not-false (eqb (coderNumber l 63) 0) u))
+    go false e u = plain-fits P l e refl w .1
+
+-- ---- a turn of the loop
+
+some-rest : {t : List ℕ} {ls : List (List ℕ)} → Labelled t ls → (f : List ℕ → List ℕ) (a : List ℕ) → join (a ∷ map f ls) ≡ a ++ 0x2E ∷ join (map f ls)
+unfolding join
+some-rest none f a = refl
+some-rest (cut d) f a = refl
+some-rest (held p d) f a = refl
+
+-- what is put, and what is left to put
+pub record Going (P : Permits) (form out₀ out : List ℕ) (from at : ℕ) : Type 0 where
+  pub done : List ℕ
+  pub within : from ≤ length form
+  pub put : Puts done out₀ out 0 at
+  pub whole : done ++ join (map (asciiLabel P) (labels (drop from form))) ≡ asciiForm P form
+  pub told : anyOf (uncoded P) (labels (drop from form)) ≡ anyOf (uncoded P) (labels form)
+  pub fit : allOf (writable P) (labels (drop from form)) ≡ true
+  pub room : at + 64 * length (labels (drop from form)) ≤ length out₀
+
+pub goes : (P : Permits) (form out : List ℕ) → Writable P form (length out) → Going P form out out 0 0
+unfolding asciiForm
+goes P form out w = record {
+  done = [];
+  within = omega arith;
+  put = record { place = refl; buffer = refl };
+  whole = refl;
+  told = refl;
+  fit = w .fit;
+  room = omega (arith, w .few);
+}
+
+module _ (P : Permits) {form out₀ out : List ℕ} {from at : ℕ} (g : Going P form out₀ out from at) (e : ℕ) (s : e ≡ from + firstOf period (drop from form)) where
+  -- the label that is put
+  abbrev here : List ℕ
+  here = take (e - from) (drop from form)
+
+  pub turn-bounds : (from ≤ e) × (e ≤ length form)
+  turn-bounds = ended form from e (g .within) s
+
+  last-here : length form ≤ e → labels (drop from form) ≡ here ∷ []
+  last-here k =
+      let b = turn-bounds in
+      last-from form from e (g .within) s k
+      ∙ ap (λ (l : List ℕ). l ∷ []) (sym (take-all (e - from) (drop from form) (omega (arith, length-drop from form))))
+
+  more-here : e < length form → labels (drop from form) ≡ here ∷ labels (drop (e + 1) form)
+  more-here k = first-from form from e (g .within) s k
+
+  -- a law of a label and what follows holds in both cases
+  by-end : {A : Type 0} → ((rest : List (List ℕ)) → labels (drop from form) ≡ here ∷ rest → A) → A
+  by-end f = ⊎-elim (λ k. f (labels (drop (e + 1) form)) (more-here k)) (λ k. f [] (last-here k)) (lt-or-le e (length form))
+
+  pub out-length : length out ≡ length out₀
+  out-length = puts-length (g .put) (omega (arith, g .room))
+
+  pub here-writable : writable P here ≡ true
+  unfolding allOf
+  here-writable = by-end (λ rest q. both (writable P here) (allOf (writable P) rest) (ap (allOf (writable P)) (sym q) ∙ g .fit) .0)
+
+  pub here-room : at + 63 ≤ length out
+  here-room = by-end (λ rest q. omega (arith, out-length, g .room, ap length q))
+
+  module _ {out₁ : List ℕ} {r : Put} (t : Tries (not (uncoded P here)) (asciiLabel P here) out out₁ at r) where
+    pub turn-refused : {after : List ℕ} → r .coded ≡ false → Tries (not (anyOf (uncoded P) (labels form))) (asciiForm P form) out₀ after 0 r
+    unfolding anyOf
+    turn-refused p =
+        let u : uncoded P here ≡ true = not-false (uncoded P here) (sym (t .coded) ∙ p) in
+        let any : anyOf (uncoded P) (labels form) ≡ true = sym (g .told) ∙ by-end (λ rest q. rw (q, u)) in
+        record { coded = p ∙ rw any; put = λ q. clash q p }
+
+    module _ (p : r .coded ≡ true) where
+      taken : uncoded P here ≡ false
+      taken = not-true (uncoded P here) (sym (t .coded) ∙ p)
+
+      puts : Puts (g .done ++ asciiLabel P here) out₀ out₁ 0 (r .at)
+      puts = next (g .put) (t .put p)
+
+      pub turn-last : length form ≤ e → Tries (not (anyOf (uncoded P) (labels form))) (asciiForm P form) out₀ out₁ 0 r
+      unfolding anyOf join
+      turn-last k =
+          let q = last-here k in
+          let all : g .done ++ asciiLabel P here ≡ asciiForm P form = ap (λ (ls : List (List ℕ)). g .done ++ join (map (asciiLabel P) ls)) (sym q) ∙ g .whole in
+          let none-left : anyOf (uncoded P) (labels form) ≡ false = sym (g .told) ∙ rw (q, taken) in
+          record { coded = p ∙ rw none-left; put = λ z. rw all at puts }
+
+      at-most : r .at ≤ at + 63
+      at-most = omega (arith, t .put p .place, label-size P here here-writable taken)
+
+      pub period-room : length out₁ ≡ length out → r .at < length out₁
+      period-room l = by-end (λ rest q. omega (arith, at-most, g .room, ap length q, out-length))
+
+      pub turn-on : r .at < length out₁ → e < length form → Going P form out₀ (set out₁ (r .at) 0x2E) (e + 1) (r .at + 1)
+      unfolding anyOf allOf
+      turn-on l k =
+          let q = more-here k in
+          let a = asciiLabel P here in
+          let left = join (map (asciiLabel P) (labels (drop (e + 1) form))) in
+          record {
+            done = (g .done ++ a) ++ (0x2E ∷ []);
+            within = omega arith;
+            put = next puts (put-one out₁ (r .at) 0x2E l);
+            whole =
+                append-assoc (g .done ++ a) (0x2E ∷ []) left
+                ∙ append-assoc (g .done) a (0x2E ∷ left)
+                ∙ ap (λ (l : List ℕ). g .done ++ l) (sym (some-rest (labelled (drop (e + 1) form)) (asciiLabel P) a))
+                ∙ ap (λ (ls : List (List ℕ)). g .done ++ join (map (asciiLabel P) ls)) (sym q)
+                ∙ g .whole;
+            told = sym (ap (anyOf (uncoded P)) q ∙ rw taken) ∙ g .told;
+            fit = both (writable P here) (allOf (writable P) (labels (drop (e + 1) form))) (ap (allOf (writable P)) (sym q) ∙ g .fit) .1;
+            room = omega (arith, at-most, g .room, ap length q);
+          }

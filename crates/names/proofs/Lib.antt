@@ -1,0 +1,9 @@
+pub mod OfLabel
+pub mod Middle
+pub mod OfName
+pub mod Reading
+pub mod Judging
+pub mod Answering
+pub mod Joining
+pub mod Enough
+pub mod Unique

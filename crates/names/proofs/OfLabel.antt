@@ -1,0 +1,143 @@
+-- What is asked of a label, test by test: each return of the code is one row of the rules, or one case of a test.
+-- Assumes nothing.
+use mathlib.Core.Path.{_≡_, refl, sym, ap, _∙_}
+use mathlib.Core.Bool.{Bool, true, false, not, _&&_, _||_}
+use mathlib.Core.List.{List, [], _∷_}
+use Prim.Native.Nat.{ℕ, _-_}
+use native.Mathlib.Omega.{arith}
+use lib.Dec.{eqb, ltb}
+use lib.ListN.{length, getD}
+use borrow.Author.Tests.{eq-eqb, ne-eqb, eqb-true, eqb-false}
+use Rattle.lists.specs.Tests.{pick, anyOf, elem}
+use Rattle.lists.specs.Rows.{Answer}
+use Rattle.lists.proofs.Laws.{or-left, or-right}
+use Rattle.characters.specs.Characters.{asciiSet, hyphen}
+use Rattle.rules.specs.Labels.{period}
+use Rattle.rules.specs.Permits.{Permits, labelChar}
+use Rattle.rules.specs.Rules.{unfit, middleDot, ordinary, isJapanese, beginsWithHyphen, endsWithHyphen, hyphenEdge, short, long, bareDot}
+use Rattle.rules.proofs.Views.{or-false, and-false}
+use Rattle.rules.proofs.Steps.{edge-at, label-7, label-8, label-9, label-10, label-0}
+use Rattle.names.specs.Steps.{labelNumber}
+
+-- ---- one character
+
+module _ (P : Permits) (c : ℕ) where
+  pub in-ascii : {a : Bool} → a ≡ asciiSet c → a ≡ true → true ≡ labelChar P c
+  unfolding labelChar
+  in-ascii e p = sym (or-right (P .japanese c) (asciiSet c) (sym e ∙ p))
+
+  pub in-japanese : {a j : Bool} → a ≡ asciiSet c → a ≡ false → j ≡ P .japanese c → j ≡ labelChar P c
+  unfolding labelChar
+  in-japanese e p q = q ∙ rw (← e, p) (sym (or-false (P .japanese c)))
+
+  pub fit-period : c ≡ 0x2E → false ≡ unfit P c
+  unfolding unfit period
+  fit-period e = rw (eq-eqb c 0x2E e)
+
+  pub fit-label : {f : Bool} → (c ≡ 0x2E → ⊥) → f ≡ labelChar P c → not f ≡ unfit P c
+  unfolding unfit period
+  fit-label h e = rw (ne-eqb c 0x2E h, e)
+
+  excepted : eqb c 0x3006 || (eqb c 0x30FC || middleDot c) ≡ true → false ≡ ordinary P c
+  unfolding ordinary
+  excepted e = rw e (sym (and-false (P .japanese c)))
+
+  pub closing : c ≡ 0x3006 → false ≡ ordinary P c
+  closing e = excepted (or-left (eqb c 0x3006) _ (eq-eqb c 0x3006 e))
+
+  pub prolonged : c ≡ 0x30FC → false ≡ ordinary P c
+  prolonged e = excepted (or-right (eqb c 0x3006) _ (or-left (eqb c 0x30FC) _ (eq-eqb c 0x30FC e)))
+
+  pub dotted : c ≡ 0x30FB → false ≡ ordinary P c
+  unfolding middleDot
+  dotted e = excepted (or-right (eqb c 0x3006) _ (or-right (eqb c 0x30FC) _ (eq-eqb c 0x30FB e)))
+
+  pub others : {j : Bool} → (c ≡ 0x3006 → ⊥) → (c ≡ 0x30FC → ⊥) → (c ≡ 0x30FB → ⊥) → j ≡ P .japanese c → j ≡ ordinary P c
+  unfolding ordinary middleDot
+  others f g h e = e ∙ rw (ne-eqb c 0x3006 f, ne-eqb c 0x30FC g, ne-eqb c 0x30FB h) (go (P .japanese c))
+    where
+      go : (j : Bool) → j ≡ j && true
+      go true = refl
+      go false = refl
+
+-- ---- the middle dot
+
+eqb-turned : (a b : ℕ) → eqb a b ≡ eqb b a
+eqb-turned a b = go (eqb b a) refl
+  where
+    go : (t : Bool) → eqb b a ≡ t → eqb a b ≡ t
+    go true e = eq-eqb a b (sym (eqb-true b a e))
+    go false e = ne-eqb a b (λ p. eqb-false b a e (sym p))
+
+dots : (l : List ℕ) → elem 0x30FB l ≡ anyOf middleDot l
+unfolding elem anyOf middleDot
+dots [] = refl
+dots (x ∷ xs) = rw (eqb-turned 0x30FB x) (ap (λ (t : Bool). eqb x 0x30FB || t) (dots xs))
+
+module _ (P : Permits) (l : List ℕ) {d : Bool} (e : d ≡ elem 0x30FB l) where
+  pub dot-bare : {o : Bool} → d ≡ true → o ≡ anyOf (ordinary P) l → not o ≡ bareDot P l
+  unfolding bareDot
+  dot-bare p q = rw (← dots l, ← e, p, q)
+
+  pub dot-none : d ≡ false → false ≡ bareDot P l
+  unfolding bareDot
+  dot-none p = rw (← dots l, ← e, p)
+
+-- ---- the two ends
+
+pub no-edge : (l : List ℕ) → length l ≡ 0 → false ≡ hyphenEdge l
+unfolding hyphenEdge beginsWithHyphen endsWithHyphen
+no-edge [] h = refl
+no-edge (x ∷ xs) h = absurd (omega arith)
+
+module _ (l : List ℕ) (h : length l ≡ 0 → ⊥) where
+  pub edge-first : getD l 0 0 ≡ 0x2D → true ≡ hyphenEdge l
+  unfolding hyphen
+  edge-first e = rw (edge-at l h, eq-eqb (getD l 0 0) 0x2D e)
+
+  pub edge-last : (getD l 0 0 ≡ 0x2D → ⊥) → eqb (getD l (length l - 1) 0) 0x2D ≡ hyphenEdge l
+  unfolding hyphen
+  edge-last n = rw (edge-at l h, ne-eqb (getD l 0 0) 0x2D n)
+
+-- ---- lengths
+
+pub short-ascii : (n : ℕ) (j : Bool) → j ≡ false → ltb n 3 ≡ (not j && ltb n 3)
+short-ascii n j e = rw e
+
+pub long-japanese : (n : ℕ) (j : Bool) → j ≡ true → ltb 15 n ≡ ltb (pick j 15 63) n
+long-japanese n j e = rw e
+
+pub long-ascii : (n : ℕ) (j : Bool) → j ≡ false → ltb 63 n ≡ ltb (pick j 15 63) n
+long-ascii n j e = rw e
+
+-- ---- 7 to 10
+
+number-of : {a b : Answer} → a ≡ b → b .number ≡ a .number
+number-of e = sym (ap (λ (a : Answer). a .number) e)
+
+module _ (P : Permits) (l : List ℕ) {e : Bool} (e7 : e ≡ hyphenEdge l) where
+  pub is-7 : e ≡ true → 7 ≡ labelNumber P l
+  is-7 p = number-of (label-7 P 3 l 0 (sym e7 ∙ p))
+
+  module _ (p : e ≡ false) {j s : Bool} (ej : j ≡ isJapanese P l) (e8 : s ≡ (not j && ltb (length l) 3)) where
+    short-is : short P 3 l ≡ s
+    unfolding short
+    short-is = rw (← ej, e8)
+
+    pub is-8 : s ≡ true → 8 ≡ labelNumber P l
+    is-8 q = number-of (label-8 P 3 l 0 (sym e7 ∙ p) (short-is ∙ q))
+
+    module _ (q : s ≡ false) {g : Bool} (e9 : g ≡ ltb (pick j 15 63) (length l)) where
+      long-is : long P l ≡ g
+      unfolding long
+      long-is = rw (← ej, e9)
+
+      pub is-9 : g ≡ true → 9 ≡ labelNumber P l
+      is-9 r = number-of (label-9 P 3 l 0 (sym e7 ∙ p) (short-is ∙ q) (long-is ∙ r))
+
+      module _ (r : g ≡ false) {b : Bool} (e10 : b ≡ bareDot P l) where
+        pub is-10 : b ≡ true → 10 ≡ labelNumber P l
+        is-10 t = number-of (label-10 P 3 l 0 (sym e7 ∙ p) (short-is ∙ q) (long-is ∙ r) (sym e10 ∙ t))
+
+        pub is-0 : b ≡ false → 0 ≡ labelNumber P l
+        is-0 t = number-of (label-0 P 3 l 0 (sym e7 ∙ p) (short-is ∙ q) (long-is ∙ r) (sym e10 ∙ t))

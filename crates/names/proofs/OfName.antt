@@ -1,0 +1,119 @@
+-- A name by its labels: where the code finds two or three, and which of them is empty.
+-- Assumes nothing.
+use mathlib.Core.Path.{_≡_, refl, sym, ap, _∙_}
+use mathlib.Core.Bool.{Bool, true, false, not, _&&_, _||_}
+use mathlib.Core.List.{List, [], _∷_}
+use Prim.Native.Nat.{ℕ, suc, _+_, _-_, _≤_, _<_}
+use native.Mathlib.Omega.{arith}
+use lib.Dec.{eqb}
+use lib.ListN.{length, take, drop, length-drop}
+use lib.Seq.{take-all}
+use borrow.Author.Tests.{eq-eqb, ne-eqb}
+use Rattle.lists.specs.Tests.{anyOf, firstOf}
+use Rattle.rules.specs.Labels.{period, labels}
+use Rattle.rules.specs.Permits.{Permits, isEmpty}
+use Rattle.rules.specs.Editions.{isPrefecture, todayWith}
+use Rattle.rules.specs.declared.Verdict.{Verdict}
+use Rattle.rules.proofs.Views.{and-false}
+use Rattle.rules.proofs.Cuts.{Labelled, none, cut, held, labelled, ended, last-from, first-from}
+use Rattle.rules.proofs.Steps.{empty-is, name-5, name-6}
+use Rattle.names.specs.Steps.{byLabels, refusal}
+
+-- ---- empty labels
+
+empty : (l : List ℕ) → length l ≡ 0 → isEmpty l ≡ true
+empty l e = empty-is l ∙ eq-eqb (length l) 0 e
+
+filled : (l : List ℕ) → (length l ≡ 0 → ⊥) → isEmpty l ≡ false
+filled l h = empty-is l ∙ ne-eqb (length l) 0 h
+
+pub two-filled : (l m : List ℕ) → (length l ≡ 0 → ⊥) → (length m ≡ 0 → ⊥) → anyOf isEmpty (l ∷ m ∷ []) ≡ false
+unfolding anyOf
+two-filled l m f g = rw (filled l f, filled m g)
+
+pub three-filled : (l m n : List ℕ) → (length l ≡ 0 → ⊥) → (length m ≡ 0 → ⊥) → (length n ≡ 0 → ⊥) → anyOf isEmpty (l ∷ m ∷ n ∷ []) ≡ false
+unfolding anyOf
+three-filled l m n f g h = rw (filled l f, filled m g, filled n h)
+
+module _ (P : Permits) (l m : List ℕ) where
+  pub two-0 : length l ≡ 0 → refusal 6 0 ≡ byLabels P (l ∷ m ∷ [])
+  unfolding anyOf firstOf
+  two-0 e = sym (name-6 P (l ∷ m ∷ []) refl (rw (empty l e)) ∙ rw (empty l e))
+
+  pub two-1 : (length l ≡ 0 → ⊥) → length m ≡ 0 → refusal 6 1 ≡ byLabels P (l ∷ m ∷ [])
+  unfolding anyOf firstOf
+  two-1 f e = sym (name-6 P (l ∷ m ∷ []) refl (rw (filled l f, empty m e)) ∙ rw (filled l f, empty m e))
+
+-- three labels may be
+pub may-three : (table : List ℕ) → eqb 3 2 || (todayWith table .three && eqb 3 3) ≡ true
+unfolding todayWith
+may-three table = refl
+
+module _ (table l m n : List ℕ) where
+  pub three-0 : length l ≡ 0 → refusal 6 0 ≡ byLabels (todayWith table) (l ∷ m ∷ n ∷ [])
+  unfolding anyOf firstOf
+  three-0 e = sym (name-6 (todayWith table) (l ∷ m ∷ n ∷ []) (may-three table) (rw (empty l e)) ∙ rw (empty l e))
+
+  module _ (f : length l ≡ 0 → ⊥) where
+    pub three-1 : length m ≡ 0 → refusal 6 1 ≡ byLabels (todayWith table) (l ∷ m ∷ n ∷ [])
+    unfolding anyOf firstOf
+    three-1 e = sym (name-6 (todayWith table) (l ∷ m ∷ n ∷ []) (may-three table) (rw (filled l f, empty m e)) ∙ rw (filled l f, empty m e))
+
+    pub three-2 : (length m ≡ 0 → ⊥) → length n ≡ 0 → refusal 6 2 ≡ byLabels (todayWith table) (l ∷ m ∷ n ∷ [])
+    unfolding anyOf firstOf
+    three-2 g e =
+        sym (name-6 (todayWith table) (l ∷ m ∷ n ∷ []) (may-three table) (rw (filled l f, filled m g, empty n e))
+        ∙ rw (filled l f, filled m g, empty n e))
+
+pub middle-is : (table m : List ℕ) {b : Bool} → b ≡ isPrefecture m → not (todayWith table .middle m) ≡ not b
+unfolding todayWith
+middle-is table m e = ap not (sym e)
+
+-- ---- where the labels end
+
+some-label : {t : List ℕ} {ls : List (List ℕ)} → Labelled t ls → 1 ≤ length ls
+some-label none = omega arith
+some-label (cut d) = omega arith
+some-label (held p d) = omega arith
+
+too-many : (P : Permits) (ls : List (List ℕ)) → (length ls ≡ 2 → ⊥) → (length ls ≡ 3 → ⊥) → refusal 5 0 ≡ byLabels P ls
+too-many P ls f g = sym (name-5 P ls (rw (ne-eqb (length ls) 2 f, ne-eqb (length ls) 3 g) (and-false (P .three))))
+
+-- the search from 0 came to a, that from a + 1 to b, that from b + 1 to d
+module _ (P : Permits) (t : List ℕ) (a : ℕ) (sa : a ≡ 0 + firstOf period (drop 0 t)) where
+  pub one-label : length t ≤ a → refusal 5 0 ≡ byLabels P (labels t)
+  one-label k =
+      let e : labels t ≡ t ∷ [] = last-from t 0 a (omega arith) sa k in
+      rw e (too-many P (t ∷ []) (λ x. omega arith) (λ x. omega arith))
+
+  module _ (ka : a < length t) (b : ℕ) (sb : b ≡ a + 1 + firstOf period (drop (a + 1) t)) where
+    pub second-end : (a + 1 ≤ b) × (b ≤ length t)
+    second-end = ended t (a + 1) b (omega arith) sb
+
+    one : labels t ≡ take (a - 0) (drop 0 t) ∷ labels (drop (a + 1) t)
+    one = first-from t 0 a (omega arith) sa ka
+
+    pub two-labels : {v : Verdict} → length t ≤ b
+        → v ≡ byLabels P (take (a - 0) (drop 0 t) ∷ take (length t - (a + 1)) (drop (a + 1) t) ∷ []) → v ≡ byLabels P (labels t)
+    two-labels k e =
+        let w : take (length t - (a + 1)) (drop (a + 1) t) ≡ drop (a + 1) t =
+        take-all (length t - (a + 1)) (drop (a + 1) t) (omega (arith, length-drop (a + 1) t)) in
+        e ∙ rw (w, one, last-from t (a + 1) b (omega arith) sb k)
+
+    module _ (kb : b < length t) (d : ℕ) (sd : d ≡ b + 1 + firstOf period (drop (b + 1) t)) where
+      two : labels t ≡ take (a - 0) (drop 0 t) ∷ take (b - (a + 1)) (drop (a + 1) t) ∷ labels (drop (b + 1) t)
+      two = one ∙ ap (λ (ls : List (List ℕ)). take (a - 0) (drop 0 t) ∷ ls) (first-from t (a + 1) b (omega arith) sb kb)
+
+      pub three-labels : {v : Verdict} → length t ≤ d
+          → v ≡ byLabels P (take (a - 0) (drop 0 t) ∷ take (b - (a + 1)) (drop (a + 1) t) ∷ take (length t - (b + 1)) (drop (b + 1) t) ∷ [])
+          → v ≡ byLabels P (labels t)
+      three-labels k e =
+          let w : take (length t - (b + 1)) (drop (b + 1) t) ≡ drop (b + 1) t =
+          take-all (length t - (b + 1)) (drop (b + 1) t) (omega (arith, length-drop (b + 1) t)) in
+          e ∙ rw (w, two, last-from t (b + 1) d (omega arith) sd k)
+
+      pub more-labels : d < length t → refusal 5 0 ≡ byLabels P (labels t)
+      more-labels k =
+          let n = some-label (labelled (drop (d + 1) t)) in
+          let e = two ∙ ap (λ (ls : List (List ℕ)). take (a - 0) (drop 0 t) ∷ take (b - (a + 1)) (drop (a + 1) t) ∷ ls) (first-from t (b + 1) d (omega arith) sd k) in
+          too-many P (labels t) (λ x. omega (arith, ap length e)) (λ x. omega (arith, ap length e))

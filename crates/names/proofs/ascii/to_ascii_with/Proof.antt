@@ -1,0 +1,104 @@
+-- `to_ascii_with` meets its contract: 1, what the judge says, then 14; what is put is copied last.
+-- Assumes nothing.
+use mathlib.Core.Path.{refl, _∙_}
+use native.Mathlib.Omega.{arith}
+use borrow.Author.Tests.{not-true, not-false}
+use Rattle.names.proofs.Answering.{passed, ascii-no-room, ascii-refused}
+use Rattle.names.proofs.Enough.{ready, put-size, piece-length, stopped, finished}
+use borrow.Author.Needs.{needs}
+use Rattle.names.proofs.ascii.to_ascii_with.Statement.{statement}
+use Rattle.names.proofs.ascii.to_ascii_with.Tie as tie
+use Rattle.names.proofs.ascii.to_ascii_with.Reads as reads
+use Rattle.names.proofs.ascii.to_ascii_with.Lts as lts
+use Rattle.bytes.proofs.copy.Reads as copy-reads
+use Rattle.names.proofs.ascii.put_labels.Reads as put-labels-reads
+use Rattle.names.proofs.checks.refused.Reads as refused-reads
+use Rattle.names.proofs.judges.judge_with.Reads as judge-with-reads
+
+refused-requires : tie.Need-refused-requires
+refused-requires c κs = search needs
+
+returns : tie.Need-returns
+returns c = ascii-no-room _ _ _ (c .refused .ensures) (c .before .if1 .taken)
+
+judge-with-requires : tie.Need-judge-with-requires
+judge-with-requires c κs = search needs
+
+refused-requires-2 : tie.Need-refused-requires-2
+refused-requires-2 c κs = search needs
+
+returns-2 : tie.Need-returns-2
+returns-2 c = ascii-refused _ _ _ (c .before .before .before .if1 .left) (c .before .before .judge-with .ensures) (c .refused2 .ensures) (c .before .if2 .taken)
+
+sub-put-labels : tie.Need-sub-put-labels
+sub-put-labels c = search needs
+
+part-put-labels-start : tie.Need-part-put-labels-start
+part-put-labels-start c = search needs
+
+part-put-labels-end : tie.Need-part-put-labels-end
+part-put-labels-end c = let p = passed _ _ (c .before .before .before .before .judge-with .ensures) (c .before .before .before .if2 .left) in omega arith
+
+slice-aggregate-put-labels : tie.Need-slice-aggregate-put-labels
+slice-aggregate-put-labels c = search needs
+
+put-labels-requires : tie.Need-put-labels-requires
+put-labels-requires c κs = ready _ _ (c .before .before .before .before .before .before .judge-with .ensures) (c .before .before .before .before .before .if2 .left)
+
+refused-requires-3 : tie.Need-refused-requires-3
+refused-requires-3 c κs = search needs
+
+returns-3 : tie.Need-returns-3
+returns-3 c = stopped _ _ (c .before .before .before .before .before .before .before .before .before .before .before .judge-with .ensures) (c .before .before .before .before .before .before .before .before .before .before .if2 .left) (c .before .before .before .before .put-labels .ensures) _ (c .before .before .before .before .before .before .before .before .before .before .before .before .if1 .left) (c .refused3 .ensures) (not-true _ (c .before .if3 .taken))
+
+slice-aggregate-octets : tie.Need-slice-aggregate-octets
+slice-aggregate-octets c = search needs
+
+sub-copy : tie.Need-sub-copy
+sub-copy c = search needs
+
+part-copy-start : tie.Need-part-copy-start
+part-copy-start c = search needs
+
+part-copy-end : tie.Need-part-copy-end
+part-copy-end c = let h = put-size _ _ (c .before .before .before .before .before .before .before .before .before .before .before .judge-with .ensures) (c .before .before .before .before .before .before .before .before .before .before .if2 .left) (c .before .before .before .before .put-labels .ensures) (not-false _ (c .before .if3 .left)) in omega arith
+
+copy-requires : tie.Need-copy-requires
+copy-requires c κs =
+    let y = not-false _ (c .before .before .before .if3 .left) in
+    let e = c .before .before .before .before .before .before .before .before .before .before .before .before .before .judge-with .ensures in
+    let z = c .before .before .before .before .before .before .before .before .before .before .before .before .if2 .left in
+    let t = c .before .before .before .before .before .before .put-labels .ensures in
+    let h = put-size _ _ e z t y in
+    let l = piece-length _ _ e z t y in
+    omega (arith, c .before .before .before .before .before .before .put-labels .kept .1 .1 .0, c .before .before .before .before .before .before .before .before .before .before .before .before .before .before .if1 .left)
+
+same-length : tie.Need-same-length
+same-length c = search needs
+
+returns-4 : tie.Need-returns-4
+returns-4 c = finished _ _ (c .before .before .before .before .before .before .before .before .before .before .before .before .before .before .before .before .judge-with .ensures) (c .before .before .before .before .before .before .before .before .before .before .before .before .before .before .before .if2 .left) (c .before .before .before .before .before .before .before .before .before .put-labels .ensures) _ (c .before .before .before .before .before .before .before .before .before .before .before .before .before .before .before .before .before .if1 .left) (not-false _ (c .before .before .before .before .before .before .if3 .left)) refl (c .before .before .copy .ensures .1)
+
+pub to-ascii-with-spec : {M : Type 1} → statement M
+to-ascii-with-spec =
+    tie.close
+    (tie.spec
+    refused-requires
+    returns
+    judge-with-requires
+    refused-requires-2
+    returns-2
+    sub-put-labels
+    part-put-labels-start
+    part-put-labels-end
+    slice-aggregate-put-labels
+    put-labels-requires
+    refused-requires-3
+    returns-3
+    slice-aggregate-octets
+    sub-copy
+    part-copy-start
+    part-copy-end
+    copy-requires
+    same-length
+    returns-4)

@@ -1,0 +1,61 @@
+-- `check_with` meets its contract: 1, then what the judge says; its array holds what is written.
+-- Assumes nothing.
+use native.Mathlib.Omega.{arith}
+use Rattle.names.proofs.Answering.{passed, check-no-room, check-refused, check-accepted}
+use borrow.Author.Needs.{needs}
+use Rattle.names.proofs.checks.check_with.Statement.{statement}
+use Rattle.names.proofs.checks.check_with.Tie as tie
+use Rattle.names.proofs.checks.check_with.Reads as reads
+use Rattle.names.proofs.checks.check_with.Lts as lts
+use Rattle.lists.proofs.copy.Reads as copy-reads
+use Rattle.names.proofs.checks.refused.Reads as refused-reads
+use Rattle.names.proofs.judges.judge_with.Reads as judge-with-reads
+
+refused-requires : tie.Need-refused-requires
+refused-requires c κs = search needs
+
+returns : tie.Need-returns
+returns c = check-no-room _ _ _ (c .refused .ensures) (c .before .if1 .taken)
+
+judge-with-requires : tie.Need-judge-with-requires
+judge-with-requires c κs = search needs
+
+refused-requires-2 : tie.Need-refused-requires-2
+refused-requires-2 c κs = search needs
+
+returns-2 : tie.Need-returns-2
+returns-2 c = check-refused _ _ _ (c .before .before .before .if1 .left) (c .before .before .judge-with .ensures) (c .refused2 .ensures) (c .before .if2 .taken)
+
+sub-copy : tie.Need-sub-copy
+sub-copy c = search needs
+
+part-copy-start : tie.Need-part-copy-start
+part-copy-start c = search needs
+
+part-copy-end : tie.Need-part-copy-end
+part-copy-end c = let p = passed _ _ (c .before .before .before .before .judge-with .ensures) (c .before .before .before .if2 .left) in omega arith
+
+copy-requires : tie.Need-copy-requires
+copy-requires c κs = search needs
+
+same-length : tie.Need-same-length
+same-length c = search needs
+
+returns-3 : tie.Need-returns-3
+returns-3 c = check-accepted _ _ _ (c .before .before .before .before .before .before .before .before .before .before .if1 .left) (c .before .before .before .before .before .before .before .before .before .judge-with .ensures) (c .before .before .before .before .before .before .before .before .if2 .left) (c .before .before .copy .ensures)
+
+pub check-with-spec : {M : Type 1} → statement M
+check-with-spec =
+    tie.close
+    (tie.spec
+    refused-requires
+    returns
+    judge-with-requires
+    refused-requires-2
+    returns-2
+    sub-copy
+    part-copy-start
+    part-copy-end
+    copy-requires
+    same-length
+    returns-3)

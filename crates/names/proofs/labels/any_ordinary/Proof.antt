@@ -1,0 +1,65 @@
+-- `any_ordinary` meets its contract: what is left of the label decides, at each turn.
+-- Assumes nothing.
+use mathlib.Core.Path.{_≡_}
+use Prim.Native.Nat.{_≤_, _-_}
+use native.Mathlib.Omega.{arith}
+use lib.ListN.{length, drop}
+use Rattle.lists.specs.Tests.{anyOf}
+use Rattle.lists.proofs.Scan.{any-here, any-on, any-end}
+use Rattle.rules.specs.Rules.{ordinary}
+use Rattle.rules.specs.Editions.{todayWith}
+use borrow.Author.Needs.{needs}
+use Rattle.names.proofs.labels.any_ordinary.Statement.{statement}
+use Rattle.names.proofs.labels.any_ordinary.Tie as tie
+use Rattle.names.proofs.labels.any_ordinary.Reads as reads
+use Rattle.names.proofs.labels.any_ordinary.Lts as lts
+use Rattle.names.proofs.labels.is_ordinary.Reads as is-ordinary-reads
+
+abbrev Inv-loop : tie.InvT-loop
+Inv-loop kanji label i₀ i = (i ≤ length label) × (anyOf (ordinary (todayWith kanji)) label ≡ anyOf (ordinary (todayWith kanji)) (drop i label))
+
+abbrev μ-loop : tie.MeasureT-loop
+μ-loop kanji label i₀ i = length label - i
+
+loop-holds : tie.Need-loop-holds Inv-loop μ-loop
+loop-holds c = search needs
+
+mul-is-ordinary : tie.Need-mul-is-ordinary Inv-loop μ-loop
+mul-is-ordinary c = search needs
+
+shared-slice-read-is-ordinary : tie.Need-shared-slice-read-is-ordinary Inv-loop μ-loop
+shared-slice-read-is-ordinary c = search needs
+
+is-ordinary-requires : tie.Need-is-ordinary-requires Inv-loop μ-loop
+is-ordinary-requires c κs = search needs
+
+returns : tie.Need-returns Inv-loop μ-loop
+returns c = any-here _ _ _ (omega arith) (c .before .before .before .before .loop .inv .1) (c .before .is-ordinary .ensures) (c .if1 .taken)
+
+add-i : tie.Need-add-i Inv-loop μ-loop
+add-i c = search needs
+
+loop-less : tie.Need-loop-less Inv-loop μ-loop
+loop-less c = search needs
+
+loop-again : tie.Need-loop-again Inv-loop μ-loop
+loop-again c = (omega arith, any-on _ _ _ (omega arith) (c .before .before .before .before .loop .inv .1) (c .before .is-ordinary .ensures) (c .if1 .left))
+
+returns-2 : tie.Need-returns-2 Inv-loop μ-loop
+returns-2 c = any-end _ _ (c .before .loop .i) (omega arith) (c .before .loop .inv .1)
+
+pub any-ordinary-spec : {M : Type 1} → statement M
+any-ordinary-spec =
+    tie.close
+    (tie.spec
+    Inv-loop
+    μ-loop
+    loop-holds
+    mul-is-ordinary
+    shared-slice-read-is-ordinary
+    is-ordinary-requires
+    returns
+    add-i
+    loop-less
+    loop-again
+    returns-2)

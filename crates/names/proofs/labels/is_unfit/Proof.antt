@@ -1,0 +1,21 @@
+-- `is_unfit` meets its contract: a period is fit, and else what a label may hold.
+-- Assumes nothing.
+use Rattle.names.proofs.OfLabel.{fit-period, fit-label}
+use borrow.Author.Needs.{needs}
+use Rattle.names.proofs.labels.is_unfit.Statement.{statement}
+use Rattle.names.proofs.labels.is_unfit.Tie as tie
+use Rattle.names.proofs.labels.is_unfit.Reads as reads
+use Rattle.names.proofs.labels.is_unfit.Lts as lts
+use Rattle.names.proofs.labels.in_label.Reads as in-label-reads
+
+returns : tie.Need-returns
+returns c = fit-period _ _ (c .if1 .taken)
+
+in-label-requires : tie.Need-in-label-requires
+in-label-requires c κs = search needs
+
+returns-2 : tie.Need-returns-2
+returns-2 c = fit-label _ _ (c .before .if1 .left) (c .in-label .ensures)
+
+pub is-unfit-spec : {M : Type 1} → statement M
+is-unfit-spec = tie.close (tie.spec returns in-label-requires returns-2)

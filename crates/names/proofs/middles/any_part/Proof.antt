@@ -1,0 +1,90 @@
+-- `any_part` meets its contract: the parts that are left decide, at each turn.
+-- Assumes nothing.
+use mathlib.Core.Path.{_≡_}
+use Prim.Native.Nat.{_-_}
+use native.Mathlib.Omega.{arith}
+use lib.ListN.{length}
+use Rattle.names.proofs.Middle.{Left, at-first, bounds, part-here, part-on, part-end}
+use borrow.Author.Needs.{needs}
+use Rattle.names.proofs.middles.any_part.Statement.{statement}
+use Rattle.names.proofs.middles.any_part.Tie as tie
+use Rattle.names.proofs.middles.any_part.Reads as reads
+use Rattle.names.proofs.middles.any_part.Lts as lts
+use Rattle.lists.proofs.same.Reads as same-reads
+
+abbrev Inv-loop : tie.InvT-loop
+Inv-loop table starts label i₀ i = Left table starts label i
+
+abbrev μ-loop : tie.MeasureT-loop
+μ-loop table starts label i₀ i = length starts - i
+
+loop-holds : tie.Need-loop-holds Inv-loop μ-loop
+loop-holds c = at-first _ _ _ (c .before .before .before .pre)
+
+sub-a : tie.Need-sub-a Inv-loop μ-loop
+sub-a c = search needs
+
+mul-a : tie.Need-mul-a Inv-loop μ-loop
+mul-a c = search needs
+
+shared-slice-read-a : tie.Need-shared-slice-read-a Inv-loop μ-loop
+shared-slice-read-a c = search needs
+
+mul-b : tie.Need-mul-b Inv-loop μ-loop
+mul-b c = search needs
+
+shared-slice-read-b : tie.Need-shared-slice-read-b Inv-loop μ-loop
+shared-slice-read-b c = search needs
+
+mul-same : tie.Need-mul-same Inv-loop μ-loop
+mul-same c = record { fits = omega (arith, bounds _ _ _ _ (c .before .before .before .loop .inv) (omega arith), c .before .before .before .before .before .before .before .good .0 .1) }
+
+sub-same : tie.Need-sub-same Inv-loop μ-loop
+sub-same c = let b = bounds _ _ _ _ (c .before .before .before .loop .inv) (omega arith) in omega arith
+
+part-same-start : tie.Need-part-same-start Inv-loop μ-loop
+part-same-start c = let b = bounds _ _ _ _ (c .before .before .before .loop .inv) (omega arith) in omega arith
+
+part-same-end : tie.Need-part-same-end Inv-loop μ-loop
+part-same-end c = let b = bounds _ _ _ _ (c .before .before .before .loop .inv) (omega arith) in omega arith
+
+same-requires : tie.Need-same-requires Inv-loop μ-loop
+same-requires c κs = search needs
+
+returns : tie.Need-returns Inv-loop μ-loop
+returns c = part-here _ _ _ _ (c .before .before .before .before .before .before .loop .inv) (omega arith) (c .before .same .ensures) (c .if1 .taken)
+
+add-i : tie.Need-add-i Inv-loop μ-loop
+add-i c = search needs
+
+loop-less : tie.Need-loop-less Inv-loop μ-loop
+loop-less c = search needs
+
+loop-again : tie.Need-loop-again Inv-loop μ-loop
+loop-again c = part-on _ _ _ _ (c .before .before .before .before .before .before .loop .inv) (omega arith) (c .before .same .ensures) (c .if1 .left)
+
+returns-2 : tie.Need-returns-2 Inv-loop μ-loop
+returns-2 c = part-end _ _ _ _ (c .before .loop .inv) (omega arith)
+
+pub any-part-spec : {M : Type 1} → statement M
+any-part-spec =
+    tie.close
+    (tie.spec
+    Inv-loop
+    μ-loop
+    loop-holds
+    sub-a
+    mul-a
+    shared-slice-read-a
+    mul-b
+    shared-slice-read-b
+    mul-same
+    sub-same
+    part-same-start
+    part-same-end
+    same-requires
+    returns
+    add-i
+    loop-less
+    loop-again
+    returns-2)

@@ -1,0 +1,623 @@
+-- The two rules of the second reader meet their contracts: each hands the rest of the label on, and the rest is shorter.
+-- Assumes nothing.
+use mathlib.Core.Path.{_∙_}
+use native.Mathlib.Omega.{arith}
+use lib.ListN.{length}
+use Rattle.names.proofs.Reading.{skip-count, note-count, none-character, none-hyphen, alike, to-hyphen, to-character, unread}
+use borrow.Author.Needs.{needs}
+use Prim.Native.Nat.{ℕ, _<_}
+use borrow.Fn.Kinds.{In}
+use borrow.Fn.PlainCycle.{Measures, is, falls, and}
+use Rattle.names.proofs.readers.after_character.Reads as after-character
+use Rattle.names.proofs.readers.after_character.Kinds as after-character-kinds
+use Rattle.names.proofs.readers.+after_character+after_hyphen.Lts-after_character as after-character-lts
+use Rattle.names.proofs.readers.after_hyphen.Reads as after-hyphen
+use Rattle.names.proofs.readers.after_hyphen.Kinds as after-hyphen-kinds
+use Rattle.names.proofs.readers.+after_character+after_hyphen.Lts-after_hyphen as after-hyphen-lts
+use Rattle.names.proofs.labels.in_label.Reads as in-label-reads
+use Rattle.names.proofs.readers.may_end.Reads as may-end-reads
+use Rattle.names.proofs.readers.noted.Reads as noted-reads
+use Rattle.names.proofs.readers.skipped.Reads as skipped-reads
+use Rattle.names.proofs.readers.+after_character+after_hyphen.{statement}
+use Rattle.names.proofs.readers.+after_character+after_hyphen.Tie.{close}
+
+abbrev μ-after-character : Measures 2 after-character-kinds.ps ℕ
+μ-after-character κs a = length (a .1 .0 .now)
+
+abbrev μ-after-hyphen : Measures 2 after-hyphen-kinds.ps ℕ
+μ-after-hyphen κs a = length (a .1 .0 .now)
+
+abbrev after-character-at : ℕ → In 2 after-character-kinds.ps
+after-character-at t =
+    and
+    2
+    after-character-kinds.ps
+    (is 2 after-character-kinds.ps μ-after-character t)
+    after-character.Pre
+
+abbrev after-character-below : ℕ → In 2 after-character-kinds.ps
+after-character-below t =
+    and
+    2
+    after-character-kinds.ps
+    (falls 2 after-character-kinds.ps _<_ μ-after-character t)
+    after-character.Pre
+
+abbrev after-hyphen-at : ℕ → In 2 after-hyphen-kinds.ps
+after-hyphen-at t =
+    and 2 after-hyphen-kinds.ps (is 2 after-hyphen-kinds.ps μ-after-hyphen t) after-hyphen.Pre
+
+abbrev after-hyphen-below : ℕ → In 2 after-hyphen-kinds.ps
+after-hyphen-below t =
+    and
+    2
+    after-hyphen-kinds.ps
+    (falls 2 after-hyphen-kinds.ps _<_ μ-after-hyphen t)
+    after-hyphen.Pre
+
+after-character-may-end-requires : (t : ℕ) → after-character-lts.Need-may-end-requires (
+  may-end-reads.Asked,
+  may-end-reads.Learnt,
+  skipped-reads.Asked,
+  skipped-reads.Learnt,
+  after-hyphen-below t,
+  after-hyphen.Post,
+  in-label-reads.Asked,
+  in-label-reads.Learnt,
+  noted-reads.Asked,
+  noted-reads.Learnt,
+  after-character-below t,
+  after-character.Post,
+) (after-character-at t) after-character.Post
+after-character-may-end-requires t c κs = search needs
+
+after-character-returns : (t : ℕ) → after-character-lts.Need-returns (
+  may-end-reads.Asked,
+  may-end-reads.Learnt,
+  skipped-reads.Asked,
+  skipped-reads.Learnt,
+  after-hyphen-below t,
+  after-hyphen.Post,
+  in-label-reads.Asked,
+  in-label-reads.Learnt,
+  noted-reads.Asked,
+  noted-reads.Learnt,
+  after-character-below t,
+  after-character.Post,
+) (after-character-at t) after-character.Post
+after-character-returns t c = none-character _ _ _ (c .before .if1 .taken) (c .may-end .ensures)
+
+after-character-shared-slice-read-x : (t : ℕ) → after-character-lts.Need-shared-slice-read-x (
+  may-end-reads.Asked,
+  may-end-reads.Learnt,
+  skipped-reads.Asked,
+  skipped-reads.Learnt,
+  after-hyphen-below t,
+  after-hyphen.Post,
+  in-label-reads.Asked,
+  in-label-reads.Learnt,
+  noted-reads.Asked,
+  noted-reads.Learnt,
+  after-character-below t,
+  after-character.Post,
+) (after-character-at t) after-character.Post
+after-character-shared-slice-read-x t c = search needs
+
+after-character-sub-after-hyphen : (t : ℕ) → after-character-lts.Need-sub-after-hyphen (
+  may-end-reads.Asked,
+  may-end-reads.Learnt,
+  skipped-reads.Asked,
+  skipped-reads.Learnt,
+  after-hyphen-below t,
+  after-hyphen.Post,
+  in-label-reads.Asked,
+  in-label-reads.Learnt,
+  noted-reads.Asked,
+  noted-reads.Learnt,
+  after-character-below t,
+  after-character.Post,
+) (after-character-at t) after-character.Post
+after-character-sub-after-hyphen t c = search needs
+
+after-character-part-after-hyphen-start :
+    (t : ℕ) → after-character-lts.Need-part-after-hyphen-start (
+      may-end-reads.Asked,
+      may-end-reads.Learnt,
+      skipped-reads.Asked,
+      skipped-reads.Learnt,
+      after-hyphen-below t,
+      after-hyphen.Post,
+      in-label-reads.Asked,
+      in-label-reads.Learnt,
+      noted-reads.Asked,
+      noted-reads.Learnt,
+      after-character-below t,
+      after-character.Post,
+    ) (after-character-at t) after-character.Post
+after-character-part-after-hyphen-start t c = search needs
+
+after-character-part-after-hyphen-end : (t : ℕ) → after-character-lts.Need-part-after-hyphen-end (
+  may-end-reads.Asked,
+  may-end-reads.Learnt,
+  skipped-reads.Asked,
+  skipped-reads.Learnt,
+  after-hyphen-below t,
+  after-hyphen.Post,
+  in-label-reads.Asked,
+  in-label-reads.Learnt,
+  noted-reads.Asked,
+  noted-reads.Learnt,
+  after-character-below t,
+  after-character.Post,
+) (after-character-at t) after-character.Post
+after-character-part-after-hyphen-end t c = search needs
+
+after-character-skipped-requires : (t : ℕ) → after-character-lts.Need-skipped-requires (
+  may-end-reads.Asked,
+  may-end-reads.Learnt,
+  skipped-reads.Asked,
+  skipped-reads.Learnt,
+  after-hyphen-below t,
+  after-hyphen.Post,
+  in-label-reads.Asked,
+  in-label-reads.Learnt,
+  noted-reads.Asked,
+  noted-reads.Learnt,
+  after-character-below t,
+  after-character.Post,
+) (after-character-at t) after-character.Post
+after-character-skipped-requires t c κs = search needs
+
+after-character-after-hyphen-requires : (t : ℕ) → after-character-lts.Need-after-hyphen-requires (
+  may-end-reads.Asked,
+  may-end-reads.Learnt,
+  skipped-reads.Asked,
+  skipped-reads.Learnt,
+  after-hyphen-below t,
+  after-hyphen.Post,
+  in-label-reads.Asked,
+  in-label-reads.Learnt,
+  noted-reads.Asked,
+  noted-reads.Learnt,
+  after-character-below t,
+  after-character.Post,
+) (after-character-at t) after-character.Post
+after-character-after-hyphen-requires t c κs = omega (arith, skip-count _ (c .skipped .ensures))
+
+after-character-returns-2 : (t : ℕ) → after-character-lts.Need-returns-2 (
+  may-end-reads.Asked,
+  may-end-reads.Learnt,
+  skipped-reads.Asked,
+  skipped-reads.Learnt,
+  after-hyphen-below t,
+  after-hyphen.Post,
+  in-label-reads.Asked,
+  in-label-reads.Learnt,
+  noted-reads.Asked,
+  noted-reads.Learnt,
+  after-character-below t,
+  after-character.Post,
+) (after-character-at t) after-character.Post
+after-character-returns-2 t c = to-hyphen _ _ _ (c .before .before .before .before .before .if1 .left) (c .before .before .before .if2 .taken) (c .before .skipped .ensures) (c .after-hyphen .ensures)
+
+after-character-in-label-requires : (t : ℕ) → after-character-lts.Need-in-label-requires (
+  may-end-reads.Asked,
+  may-end-reads.Learnt,
+  skipped-reads.Asked,
+  skipped-reads.Learnt,
+  after-hyphen-below t,
+  after-hyphen.Post,
+  in-label-reads.Asked,
+  in-label-reads.Learnt,
+  noted-reads.Asked,
+  noted-reads.Learnt,
+  after-character-below t,
+  after-character.Post,
+) (after-character-at t) after-character.Post
+after-character-in-label-requires t c κs = search needs
+
+after-character-sub-after-character : (t : ℕ) → after-character-lts.Need-sub-after-character (
+  may-end-reads.Asked,
+  may-end-reads.Learnt,
+  skipped-reads.Asked,
+  skipped-reads.Learnt,
+  after-hyphen-below t,
+  after-hyphen.Post,
+  in-label-reads.Asked,
+  in-label-reads.Learnt,
+  noted-reads.Asked,
+  noted-reads.Learnt,
+  after-character-below t,
+  after-character.Post,
+) (after-character-at t) after-character.Post
+after-character-sub-after-character t c = search needs
+
+after-character-part-after-character-start :
+    (t : ℕ) → after-character-lts.Need-part-after-character-start (
+      may-end-reads.Asked,
+      may-end-reads.Learnt,
+      skipped-reads.Asked,
+      skipped-reads.Learnt,
+      after-hyphen-below t,
+      after-hyphen.Post,
+      in-label-reads.Asked,
+      in-label-reads.Learnt,
+      noted-reads.Asked,
+      noted-reads.Learnt,
+      after-character-below t,
+      after-character.Post,
+    ) (after-character-at t) after-character.Post
+after-character-part-after-character-start t c = search needs
+
+after-character-part-after-character-end :
+    (t : ℕ) → after-character-lts.Need-part-after-character-end (
+      may-end-reads.Asked,
+      may-end-reads.Learnt,
+      skipped-reads.Asked,
+      skipped-reads.Learnt,
+      after-hyphen-below t,
+      after-hyphen.Post,
+      in-label-reads.Asked,
+      in-label-reads.Learnt,
+      noted-reads.Asked,
+      noted-reads.Learnt,
+      after-character-below t,
+      after-character.Post,
+    ) (after-character-at t) after-character.Post
+after-character-part-after-character-end t c = search needs
+
+after-character-noted-requires : (t : ℕ) → after-character-lts.Need-noted-requires (
+  may-end-reads.Asked,
+  may-end-reads.Learnt,
+  skipped-reads.Asked,
+  skipped-reads.Learnt,
+  after-hyphen-below t,
+  after-hyphen.Post,
+  in-label-reads.Asked,
+  in-label-reads.Learnt,
+  noted-reads.Asked,
+  noted-reads.Learnt,
+  after-character-below t,
+  after-character.Post,
+) (after-character-at t) after-character.Post
+after-character-noted-requires t c κs = search needs
+
+after-character-after-character-requires :
+    (t : ℕ) → after-character-lts.Need-after-character-requires (
+      may-end-reads.Asked,
+      may-end-reads.Learnt,
+      skipped-reads.Asked,
+      skipped-reads.Learnt,
+      after-hyphen-below t,
+      after-hyphen.Post,
+      in-label-reads.Asked,
+      in-label-reads.Learnt,
+      noted-reads.Asked,
+      noted-reads.Learnt,
+      after-character-below t,
+      after-character.Post,
+    ) (after-character-at t) after-character.Post
+after-character-after-character-requires t c κs = omega (arith, note-count _ _ _ (c .noted .ensures))
+
+after-character-returns-3 : (t : ℕ) → after-character-lts.Need-returns-3 (
+  may-end-reads.Asked,
+  may-end-reads.Learnt,
+  skipped-reads.Asked,
+  skipped-reads.Learnt,
+  after-hyphen-below t,
+  after-hyphen.Post,
+  in-label-reads.Asked,
+  in-label-reads.Learnt,
+  noted-reads.Asked,
+  noted-reads.Learnt,
+  after-character-below t,
+  after-character.Post,
+) (after-character-at t) after-character.Post
+after-character-returns-3 t c = to-character _ _ _ (c .before .before .before .before .before .before .before .if1 .left) (c .before .before .before .before .before .if2 .left) (c .before .before .before .before .in-label .ensures) (c .before .before .before .if3 .taken) (c .before .noted .ensures) (c .after-character .ensures)
+
+after-character-returns-4 : (t : ℕ) → after-character-lts.Need-returns-4 (
+  may-end-reads.Asked,
+  may-end-reads.Learnt,
+  skipped-reads.Asked,
+  skipped-reads.Learnt,
+  after-hyphen-below t,
+  after-hyphen.Post,
+  in-label-reads.Asked,
+  in-label-reads.Learnt,
+  noted-reads.Asked,
+  noted-reads.Learnt,
+  after-character-below t,
+  after-character.Post,
+) (after-character-at t) after-character.Post
+after-character-returns-4 t c = unread _ _ _ (c .before .before .before .before .if1 .left) (c .before .before .if2 .left) (c .before .in-label .ensures) (c .if3 .left)
+
+after-hyphen-returns : (t : ℕ) → after-hyphen-lts.Need-returns (
+  skipped-reads.Asked,
+  skipped-reads.Learnt,
+  after-hyphen-below t,
+  after-hyphen.Post,
+  in-label-reads.Asked,
+  in-label-reads.Learnt,
+  noted-reads.Asked,
+  noted-reads.Learnt,
+  after-character-below t,
+  after-character.Post,
+) (after-hyphen-at t) after-hyphen.Post
+after-hyphen-returns t c = none-hyphen _ _ _ (c .if1 .taken)
+
+after-hyphen-shared-slice-read-x : (t : ℕ) → after-hyphen-lts.Need-shared-slice-read-x (
+  skipped-reads.Asked,
+  skipped-reads.Learnt,
+  after-hyphen-below t,
+  after-hyphen.Post,
+  in-label-reads.Asked,
+  in-label-reads.Learnt,
+  noted-reads.Asked,
+  noted-reads.Learnt,
+  after-character-below t,
+  after-character.Post,
+) (after-hyphen-at t) after-hyphen.Post
+after-hyphen-shared-slice-read-x t c = search needs
+
+after-hyphen-sub-after-hyphen : (t : ℕ) → after-hyphen-lts.Need-sub-after-hyphen (
+  skipped-reads.Asked,
+  skipped-reads.Learnt,
+  after-hyphen-below t,
+  after-hyphen.Post,
+  in-label-reads.Asked,
+  in-label-reads.Learnt,
+  noted-reads.Asked,
+  noted-reads.Learnt,
+  after-character-below t,
+  after-character.Post,
+) (after-hyphen-at t) after-hyphen.Post
+after-hyphen-sub-after-hyphen t c = search needs
+
+after-hyphen-part-after-hyphen-start : (t : ℕ) → after-hyphen-lts.Need-part-after-hyphen-start (
+  skipped-reads.Asked,
+  skipped-reads.Learnt,
+  after-hyphen-below t,
+  after-hyphen.Post,
+  in-label-reads.Asked,
+  in-label-reads.Learnt,
+  noted-reads.Asked,
+  noted-reads.Learnt,
+  after-character-below t,
+  after-character.Post,
+) (after-hyphen-at t) after-hyphen.Post
+after-hyphen-part-after-hyphen-start t c = search needs
+
+after-hyphen-part-after-hyphen-end : (t : ℕ) → after-hyphen-lts.Need-part-after-hyphen-end (
+  skipped-reads.Asked,
+  skipped-reads.Learnt,
+  after-hyphen-below t,
+  after-hyphen.Post,
+  in-label-reads.Asked,
+  in-label-reads.Learnt,
+  noted-reads.Asked,
+  noted-reads.Learnt,
+  after-character-below t,
+  after-character.Post,
+) (after-hyphen-at t) after-hyphen.Post
+after-hyphen-part-after-hyphen-end t c = search needs
+
+after-hyphen-skipped-requires : (t : ℕ) → after-hyphen-lts.Need-skipped-requires (
+  skipped-reads.Asked,
+  skipped-reads.Learnt,
+  after-hyphen-below t,
+  after-hyphen.Post,
+  in-label-reads.Asked,
+  in-label-reads.Learnt,
+  noted-reads.Asked,
+  noted-reads.Learnt,
+  after-character-below t,
+  after-character.Post,
+) (after-hyphen-at t) after-hyphen.Post
+after-hyphen-skipped-requires t c κs = search needs
+
+after-hyphen-after-hyphen-requires : (t : ℕ) → after-hyphen-lts.Need-after-hyphen-requires (
+  skipped-reads.Asked,
+  skipped-reads.Learnt,
+  after-hyphen-below t,
+  after-hyphen.Post,
+  in-label-reads.Asked,
+  in-label-reads.Learnt,
+  noted-reads.Asked,
+  noted-reads.Learnt,
+  after-character-below t,
+  after-character.Post,
+) (after-hyphen-at t) after-hyphen.Post
+after-hyphen-after-hyphen-requires t c κs = omega (arith, skip-count _ (c .skipped .ensures))
+
+after-hyphen-returns-2 : (t : ℕ) → after-hyphen-lts.Need-returns-2 (
+  skipped-reads.Asked,
+  skipped-reads.Learnt,
+  after-hyphen-below t,
+  after-hyphen.Post,
+  in-label-reads.Asked,
+  in-label-reads.Learnt,
+  noted-reads.Asked,
+  noted-reads.Learnt,
+  after-character-below t,
+  after-character.Post,
+) (after-hyphen-at t) after-hyphen.Post
+after-hyphen-returns-2 t c = to-hyphen _ _ _ (c .before .before .before .before .before .if1 .left) (c .before .before .before .if2 .taken) (c .before .skipped .ensures) (c .after-hyphen .ensures) ∙ alike _ _ _ (c .before .before .before .before .before .if1 .left)
+
+after-hyphen-in-label-requires : (t : ℕ) → after-hyphen-lts.Need-in-label-requires (
+  skipped-reads.Asked,
+  skipped-reads.Learnt,
+  after-hyphen-below t,
+  after-hyphen.Post,
+  in-label-reads.Asked,
+  in-label-reads.Learnt,
+  noted-reads.Asked,
+  noted-reads.Learnt,
+  after-character-below t,
+  after-character.Post,
+) (after-hyphen-at t) after-hyphen.Post
+after-hyphen-in-label-requires t c κs = search needs
+
+after-hyphen-sub-after-character : (t : ℕ) → after-hyphen-lts.Need-sub-after-character (
+  skipped-reads.Asked,
+  skipped-reads.Learnt,
+  after-hyphen-below t,
+  after-hyphen.Post,
+  in-label-reads.Asked,
+  in-label-reads.Learnt,
+  noted-reads.Asked,
+  noted-reads.Learnt,
+  after-character-below t,
+  after-character.Post,
+) (after-hyphen-at t) after-hyphen.Post
+after-hyphen-sub-after-character t c = search needs
+
+after-hyphen-part-after-character-start :
+    (t : ℕ) → after-hyphen-lts.Need-part-after-character-start (
+      skipped-reads.Asked,
+      skipped-reads.Learnt,
+      after-hyphen-below t,
+      after-hyphen.Post,
+      in-label-reads.Asked,
+      in-label-reads.Learnt,
+      noted-reads.Asked,
+      noted-reads.Learnt,
+      after-character-below t,
+      after-character.Post,
+    ) (after-hyphen-at t) after-hyphen.Post
+after-hyphen-part-after-character-start t c = search needs
+
+after-hyphen-part-after-character-end : (t : ℕ) → after-hyphen-lts.Need-part-after-character-end (
+  skipped-reads.Asked,
+  skipped-reads.Learnt,
+  after-hyphen-below t,
+  after-hyphen.Post,
+  in-label-reads.Asked,
+  in-label-reads.Learnt,
+  noted-reads.Asked,
+  noted-reads.Learnt,
+  after-character-below t,
+  after-character.Post,
+) (after-hyphen-at t) after-hyphen.Post
+after-hyphen-part-after-character-end t c = search needs
+
+after-hyphen-noted-requires : (t : ℕ) → after-hyphen-lts.Need-noted-requires (
+  skipped-reads.Asked,
+  skipped-reads.Learnt,
+  after-hyphen-below t,
+  after-hyphen.Post,
+  in-label-reads.Asked,
+  in-label-reads.Learnt,
+  noted-reads.Asked,
+  noted-reads.Learnt,
+  after-character-below t,
+  after-character.Post,
+) (after-hyphen-at t) after-hyphen.Post
+after-hyphen-noted-requires t c κs = search needs
+
+after-hyphen-after-character-requires : (t : ℕ) → after-hyphen-lts.Need-after-character-requires (
+  skipped-reads.Asked,
+  skipped-reads.Learnt,
+  after-hyphen-below t,
+  after-hyphen.Post,
+  in-label-reads.Asked,
+  in-label-reads.Learnt,
+  noted-reads.Asked,
+  noted-reads.Learnt,
+  after-character-below t,
+  after-character.Post,
+) (after-hyphen-at t) after-hyphen.Post
+after-hyphen-after-character-requires t c κs = omega (arith, note-count _ _ _ (c .noted .ensures))
+
+after-hyphen-returns-3 : (t : ℕ) → after-hyphen-lts.Need-returns-3 (
+  skipped-reads.Asked,
+  skipped-reads.Learnt,
+  after-hyphen-below t,
+  after-hyphen.Post,
+  in-label-reads.Asked,
+  in-label-reads.Learnt,
+  noted-reads.Asked,
+  noted-reads.Learnt,
+  after-character-below t,
+  after-character.Post,
+) (after-hyphen-at t) after-hyphen.Post
+after-hyphen-returns-3 t c = to-character _ _ _ (c .before .before .before .before .before .before .before .if1 .left) (c .before .before .before .before .before .if2 .left) (c .before .before .before .before .in-label .ensures) (c .before .before .before .if3 .taken) (c .before .noted .ensures) (c .after-character .ensures) ∙ alike _ _ _ (c .before .before .before .before .before .before .before .if1 .left)
+
+after-hyphen-returns-4 : (t : ℕ) → after-hyphen-lts.Need-returns-4 (
+  skipped-reads.Asked,
+  skipped-reads.Learnt,
+  after-hyphen-below t,
+  after-hyphen.Post,
+  in-label-reads.Asked,
+  in-label-reads.Learnt,
+  noted-reads.Asked,
+  noted-reads.Learnt,
+  after-character-below t,
+  after-character.Post,
+) (after-hyphen-at t) after-hyphen.Post
+after-hyphen-returns-4 t c = unread _ _ _ (c .before .before .before .before .if1 .left) (c .before .before .if2 .left) (c .before .in-label .ensures) (c .if3 .left) ∙ alike _ _ _ (c .before .before .before .before .if1 .left)
+
+pub +after-character+after-hyphen-spec : {M : Type 1} → statement M
++after-character+after-hyphen-spec =
+    close μ-after-character μ-after-hyphen (λ t. after-character-lts.spec (
+      may-end-reads.Asked,
+      may-end-reads.Learnt,
+      skipped-reads.Asked,
+      skipped-reads.Learnt,
+      after-hyphen-below t,
+      after-hyphen.Post,
+      in-label-reads.Asked,
+      in-label-reads.Learnt,
+      noted-reads.Asked,
+      noted-reads.Learnt,
+      after-character-below t,
+      after-character.Post,
+    )
+    (after-character-at t)
+    after-character.Post
+    (after-character-may-end-requires t)
+    (after-character-returns t)
+    (after-character-shared-slice-read-x t)
+    (after-character-sub-after-hyphen t)
+    (after-character-part-after-hyphen-start t)
+    (after-character-part-after-hyphen-end t)
+    (after-character-skipped-requires t)
+    (after-character-after-hyphen-requires t)
+    (after-character-returns-2 t)
+    (after-character-in-label-requires t)
+    (after-character-sub-after-character t)
+    (after-character-part-after-character-start t)
+    (after-character-part-after-character-end t)
+    (after-character-noted-requires t)
+    (after-character-after-character-requires t)
+    (after-character-returns-3 t)
+    (after-character-returns-4 t))
+    λ t. after-hyphen-lts.spec (
+      skipped-reads.Asked,
+      skipped-reads.Learnt,
+      after-hyphen-below t,
+      after-hyphen.Post,
+      in-label-reads.Asked,
+      in-label-reads.Learnt,
+      noted-reads.Asked,
+      noted-reads.Learnt,
+      after-character-below t,
+      after-character.Post,
+    )
+    (after-hyphen-at t)
+    after-hyphen.Post
+    (after-hyphen-returns t)
+    (after-hyphen-shared-slice-read-x t)
+    (after-hyphen-sub-after-hyphen t)
+    (after-hyphen-part-after-hyphen-start t)
+    (after-hyphen-part-after-hyphen-end t)
+    (after-hyphen-skipped-requires t)
+    (after-hyphen-after-hyphen-requires t)
+    (after-hyphen-returns-2 t)
+    (after-hyphen-in-label-requires t)
+    (after-hyphen-sub-after-character t)
+    (after-hyphen-part-after-character-start t)
+    (after-hyphen-part-after-character-end t)
+    (after-hyphen-noted-requires t)
+    (after-hyphen-after-character-requires t)
+    (after-hyphen-returns-3 t)
+    (after-hyphen-returns-4 t)

@@ -1,0 +1,46 @@
+-- `noted` meets its contract: each part is what was noted or what the character adds.
+-- Assumes nothing.
+use Rattle.rules.specs.Editions.{todayWith}
+use Rattle.names.proofs.Reading.{note-is}
+use borrow.Author.Needs.{needs}
+use Rattle.names.proofs.readers.noted.Statement.{statement}
+use Rattle.names.proofs.readers.noted.Tie as tie
+use Rattle.names.proofs.readers.noted.Reads as reads
+use Rattle.names.proofs.readers.noted.Lts as lts
+use Rattle.characters.proofs.is_japanese.Reads as is-japanese-reads
+use Rattle.names.proofs.labels.is_ordinary.Reads as is-ordinary-reads
+use Rattle.names.proofs.readers.either.Reads as either-reads
+
+is-japanese-requires : tie.Need-is-japanese-requires
+is-japanese-requires c κs = search needs
+
+either-requires : tie.Need-either-requires
+either-requires c κs = search needs
+
+either-requires-2 : tie.Need-either-requires-2
+either-requires-2 c κs = search needs
+
+is-ordinary-requires : tie.Need-is-ordinary-requires
+is-ordinary-requires c κs = search needs
+
+either-requires-3 : tie.Need-either-requires-3
+either-requires-3 c κs = search needs
+
+add-t8 : tie.Need-add-t8
+add-t8 c = search needs
+
+returns : tie.Need-returns
+unfolding todayWith
+returns c = note-is _ _ _ (c .before .before .before .before .before .is-japanese .ensures) (c .before .before .before .before .either .ensures) (c .before .before .before .either2 .ensures) (c .before .before .is-ordinary .ensures) (c .before .either3 .ensures)
+
+pub noted-spec : {M : Type 1} → statement M
+noted-spec =
+    tie.close
+    (tie.spec
+    is-japanese-requires
+    either-requires
+    either-requires-2
+    is-ordinary-requires
+    either-requires-3
+    add-t8
+    returns)

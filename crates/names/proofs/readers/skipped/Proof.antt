@@ -1,0 +1,19 @@
+-- `skipped` meets its contract.
+-- Assumes nothing.
+use mathlib.Core.Path.{refl}
+use Rattle.rules.specs.Reader.{skip}
+use borrow.Author.Needs.{needs}
+use Rattle.names.proofs.readers.skipped.Statement.{statement}
+use Rattle.names.proofs.readers.skipped.Tie as tie
+use Rattle.names.proofs.readers.skipped.Reads as reads
+use Rattle.names.proofs.readers.skipped.Lts as lts
+
+add-t2 : tie.Need-add-t2
+add-t2 c = search needs
+
+returns : tie.Need-returns
+unfolding skip
+returns c = refl
+
+pub skipped-spec : {M : Type 1} → statement M
+skipped-spec = tie.close (tie.spec add-t2 returns)

@@ -1,0 +1,66 @@
+-- What the functions below the calls answer: parts of the rules, each for the labels or the table that it is handed.
+use mathlib.Core.Bool.{Bool, true, _&&_, _||_}
+use mathlib.Core.List.{List, [], _∷_, _++_}
+use mathlib.Core.Path.{_≡_}
+use Prim.Native.Nat.{ℕ, _+_, _-_, _*_, _≤_}
+use lib.Dec.{leb, ltb}
+use lib.ListN.{length, take, drop}
+use Rattle.lists.specs.Tests.{allOf}
+use Rattle.lists.specs.Rows.{first}
+use Rattle.rules.specs.Labels.{labels}
+use Rattle.rules.specs.Permits.{Permits}
+use Rattle.rules.specs.Rules.{isJapanese, labelRows, nameRows, verdict}
+use Rattle.rules.specs.declared.Class.the-variants.{None}
+use Rattle.rules.specs.declared.Verdict.{Verdict}
+use Rattle.names.specs.declared.Checked.{Checked}
+use Rattle.names.specs.declared.ascii.Put.{Put}
+
+-- the first of 7 to 10 that applies to a leftmost label, or 0
+abbrev pub labelNumber : Permits → List ℕ → ℕ
+labelNumber P l = first (labelRows P 3 l 0) .number
+
+-- the rules 5 to 12, of the labels of a form
+abbrev pub byLabels : Permits → List (List ℕ) → Verdict
+byLabels P ls = verdict (first (nameRows P ls)) ls
+
+abbrev pub refusal : ℕ → ℕ → Verdict
+refusal n p = record { number = n; place = p; class = None }
+
+abbrev pub refusedCall : ℕ → ℕ → Checked
+refusedCall n p = record { number = n; place = p; class = None; length = 0 }
+
+-- a table cut where each part starts, the last start being the end of the last part
+unfoldable pub parts : List ℕ → List ℕ → List (List ℕ)
+parts table [] = []
+parts table (a ∷ []) = []
+parts table (a ∷ b ∷ ss) = take (b - a) (drop a table) ∷ parts table (b ∷ ss)
+
+-- the starts do not fall, and none is past n
+unfoldable pub inOrder : ℕ → List ℕ → Bool
+inOrder n [] = true
+inOrder n (a ∷ []) = leb a n
+inOrder n (a ∷ b ∷ ss) = leb a b && inOrder n (b ∷ ss)
+
+-- ---- the parts of an ASCII form
+
+unfoldable pub octet : ℕ → Bool
+octet c = ltb c 0x100
+
+-- a label whose ASCII form has room in 63 octets, if the coder takes it
+unfoldable pub writable : Permits → List ℕ → Bool
+writable P l = isJapanese P l || (leb (length l) 63 && allOf octet l)
+
+-- each label of a form is, and there is room for 64 octets of each
+pub record Writable (P : Permits) (form : List ℕ) (room : ℕ) : Type 0 where
+  pub fit : allOf (writable P) (labels form) ≡ true
+  pub few : 64 * length (labels form) ≤ room
+
+-- a piece stands from `at` on, r is past it, and all else is as it was
+pub record Puts (piece before after : List ℕ) (at r : ℕ) : Type 0 where
+  pub place : r ≡ at + length piece
+  pub buffer : after ≡ take at before ++ (piece ++ drop r before)
+
+-- the same of a piece that the coder may refuse, in whole or in part
+pub record Tries (takes : Bool) (piece before after : List ℕ) (at : ℕ) (r : Put) : Type 0 where
+  pub coded : r .coded ≡ takes
+  pub put : r .coded ≡ true → Puts piece before after at (r .at)

@@ -1,0 +1,123 @@
+// The whole ASCII form of a name: each Japanese label encoded, ASCII labels as they are, joined by periods. What the coder does
+// is known by its stated answers alone.
+use crate::Checked;
+use crate::checks::refused;
+use crate::judges::judge_with;
+use crate::labels::any_japanese;
+use crate::labels::label_end;
+ghost use mathlib.Core.Path.{_≡_};
+ghost use mathlib.Core.Bool.{true, not};
+ghost use Prim.Native.Nat.{_+_, _≤_};
+ghost use lib.Dec.{eqb};
+ghost use lib.ListN.{length};
+ghost use Rattle.lists.specs.Tests.{allOf, anyOf};
+ghost use Rattle.rules.specs.Editions.{todayWith};
+ghost use Rattle.punycode.specs.Punycode.{ace};
+ghost use Rattle.punycode.specs.Calls.{coderNumber};
+ghost use Rattle.rules.specs.Labels.{labels};
+ghost use Rattle.names.specs.Calls.{asciiLabel, asciiForm, uncoded, AsciiForms};
+ghost use Rattle.names.specs.Steps.{octet, writable, Writable, Puts, Tries};
+
+// Whether the coder took what it was handed, and the place past what was put.
+pub struct Put {
+    pub coded: bool,
+    pub at: usize,
+}
+
+// Puts an ASCII label from `at` on, and returns the place past it.
+fn put_plain(label: &[u32], out: &mut [u8], at: usize) -> usize
+    requires { ⌜ (allOf octet (now label) ≡ true) × (at + length (now label) ≤ length (now out)) ⌝ }
+    ensures { λ r. ⌜ Puts (now (label .entry)) (now (out .entry)) (now (out .exit)) at r ⌝ }
+{
+    let mut i = 0;
+    while i < label.len() {
+        out[at + i] = label[i] as u8;
+        i += 1;
+    }
+    at + i
+}
+
+// Puts the encoding of a Japanese label from `at` on, where the coder takes the label.
+fn put_coded(label: &[u32], out: &mut [u8], at: usize) -> Put
+    requires { ⌜ at + 63 ≤ length (now out) ⌝ }
+    ensures { λ r. ⌜ Tries (eqb (coderNumber (now (label .entry)) 63) 0) (ace (now (label .entry))) (now (out .entry)) (now (out .exit)) at r ⌝ }
+{
+    let coded = punycode::encode(label, &mut out[at..]);
+    let number = coded.number;
+    if number != 0 {
+        return Put {
+            coded: false,
+            at,
+        };
+    }
+    Put {
+        coded: true,
+        at: at + coded.length,
+    }
+}
+
+// Puts the ASCII form of a label from `at` on, where the coder takes the label.
+fn put_label(kanji: &[u32], label: &[u32], out: &mut [u8], at: usize) -> Put
+    requires { ⌜ (writable (todayWith (now kanji)) (now label) ≡ true) × (at + 63 ≤ length (now out)) ⌝ }
+    ensures { λ r. ⌜ Tries (not (uncoded (todayWith (now (kanji .entry))) (now (label .entry)))) (asciiLabel (todayWith (now (kanji .entry))) (now (label .entry))) (now (out .entry)) (now (out .exit)) at r ⌝ }
+{
+    if any_japanese(kanji, label) {
+        return put_coded(label, out, at);
+    }
+    Put {
+        coded: true,
+        at: put_plain(label, out, at),
+    }
+}
+
+// Puts the ASCII form of a name, label by label, where the coder takes every label.
+fn put_labels(kanji: &[u32], form: &[u32], out: &mut [u8]) -> Put
+    requires { ⌜ Writable (todayWith (now kanji)) (now form) (length (now out)) ⌝ }
+    ensures { λ r. ⌜ Tries (not (anyOf (uncoded (todayWith (now (kanji .entry)))) (labels (now (form .entry))))) (asciiForm (todayWith (now (kanji .entry))) (now (form .entry))) (now (out .entry)) (now (out .exit)) 0 r ⌝ }
+{
+    let mut from = 0;
+    let mut at = 0;
+    loop {
+        let end = label_end(form, from);
+        let put = put_label(kanji, &form[from..end], out, at);
+        if !put.coded {
+            return put;
+        }
+        at = put.at;
+        if end >= form.len() {
+            return put;
+        }
+        out[at] = 0x2E;
+        at += 1;
+        from = end + 1;
+    }
+}
+
+pub fn to_ascii_with(kanji: &[u32], text: &[u32], out: &mut [u8]) -> Checked
+    ensures { λ r. ⌜ AsciiForms (todayWith (now (kanji .entry))) (now (text .entry)) (now (out .entry)) (now (out .exit)) r ⌝ }
+{
+    if out.len() < 192 {
+        return refused(1, 0);
+    }
+    let judged = judge_with(kanji, text);
+    if judged.number != 0 {
+        return refused(judged.number, judged.place);
+    }
+    let n = judged.length;
+    let form: &[u32] = &judged.form;
+    let mut ascii = [0u8; 192];
+    let put = put_labels(kanji, &form[0..n], &mut ascii);
+    if !put.coded {
+        return refused(14, 0);
+    }
+    let length = put.at;
+    let octets: &[u8] = &ascii;
+    bytes::copy(&octets[0..length], out);
+    let class = judged.class;
+    Checked {
+        number: 0,
+        place: 0,
+        class,
+        length,
+    }
+}

@@ -1,0 +1,42 @@
+// The check: the judge, and with 0 the normal form is written.
+use crate::Checked;
+use crate::judges::judge_with;
+use rules::Class;
+ghost use mathlib.Core.Path.{_≡_};
+ghost use Rattle.rules.specs.Editions.{todayWith};
+ghost use Rattle.names.specs.Calls.{Checks};
+ghost use Rattle.names.specs.Steps.{refusedCall};
+
+// A refusal: length 0, and nothing is written.
+pub fn refused(number: u8, place: usize) -> Checked
+    ensures { λ r. ⌜ r ≡ refusedCall number place ⌝ }
+{
+    Checked {
+        number,
+        place,
+        class: Class::None,
+        length: 0,
+    }
+}
+
+pub fn check_with(kanji: &[u32], text: &[u32], out: &mut [u32]) -> Checked
+    ensures { λ r. ⌜ Checks (todayWith (now (kanji .entry))) (now (text .entry)) (now (out .entry)) (now (out .exit)) r ⌝ }
+{
+    if out.len() < 256 {
+        return refused(1, 0);
+    }
+    let judged = judge_with(kanji, text);
+    if judged.number != 0 {
+        return refused(judged.number, judged.place);
+    }
+    let length = judged.length;
+    let form: &[u32] = &judged.form;
+    lists::copy(&form[0..length], out);
+    let class = judged.class;
+    Checked {
+        number: 0,
+        place: 0,
+        class,
+        length,
+    }
+}

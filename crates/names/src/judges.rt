@@ -1,0 +1,143 @@
+// The judge: what the rules say of a text, with its normal form. Every other call on a name asks it.
+use crate::Judged;
+use crate::labels::first_unfit;
+use crate::labels::is_jp;
+use crate::labels::label_end;
+use crate::labels::left_rule;
+use crate::middles::is_prefecture;
+use rules::Class;
+use rules::Verdict;
+ghost use mathlib.Core.Path.{_≡_};
+ghost use mathlib.Core.List.{_∷_, []};
+ghost use Rattle.rules.specs.Labels.{labels};
+ghost use Rattle.rules.specs.Rules.{accepted};
+ghost use Rattle.rules.specs.Editions.{todayWith};
+ghost use Rattle.names.specs.Calls.{judged};
+ghost use Rattle.names.specs.Steps.{refusal, byLabels};
+
+fn refused(number: u8, place: usize) -> Verdict
+    ensures { λ r. ⌜ r ≡ refusal number place ⌝ }
+{
+    Verdict {
+        number,
+        place,
+        class: Class::None,
+    }
+}
+
+fn accepted(class: Class) -> Verdict
+    ensures { λ r. ⌜ r ≡ accepted class ⌝ }
+{
+    Verdict {
+        number: 0,
+        place: 0,
+        class,
+    }
+}
+
+// The rules of two labels, 6 to 11.
+fn two_labels(kanji: &[u32], left: &[u32], last: &[u32]) -> Verdict
+    ensures { λ r. ⌜ r ≡ byLabels (todayWith (now (kanji .entry))) (now (left .entry) ∷ now (last .entry) ∷ []) ⌝ }
+{
+    if left.len() == 0 {
+        return refused(6, 0);
+    }
+    if last.len() == 0 {
+        return refused(6, 1);
+    }
+    let number = left_rule(kanji, left);
+    if number != 0 {
+        return refused(number, 0);
+    }
+    if is_jp(last) {
+        return accepted(Class::General);
+    }
+    refused(11, 0)
+}
+
+// The rules of three labels, 6 to 12.
+fn three_labels(kanji: &[u32], left: &[u32], middle: &[u32], last: &[u32]) -> Verdict
+    ensures { λ r. ⌜ r ≡ byLabels (todayWith (now (kanji .entry))) (now (left .entry) ∷ now (middle .entry) ∷ now (last .entry) ∷ []) ⌝ }
+{
+    if left.len() == 0 {
+        return refused(6, 0);
+    }
+    if middle.len() == 0 {
+        return refused(6, 1);
+    }
+    if last.len() == 0 {
+        return refused(6, 2);
+    }
+    let number = left_rule(kanji, left);
+    if number != 0 {
+        return refused(number, 0);
+    }
+    let under_jp = is_jp(last);
+    if !under_jp {
+        return refused(11, 0);
+    }
+    if is_prefecture(middle) {
+        return accepted(Class::Prefecture);
+    }
+    refused(12, 0)
+}
+
+// The rules of a form whose characters are fit, 5 to 12.
+fn name_rules(kanji: &[u32], form: &[u32]) -> Verdict
+    ensures { λ r. ⌜ r ≡ byLabels (todayWith (now (kanji .entry))) (labels (now (form .entry))) ⌝ }
+{
+    let n = form.len();
+    let a = label_end(form, 0);
+    if a >= n {
+        return refused(5, 0);
+    }
+    let p = a + 1;
+    let b = label_end(form, p);
+    if b >= n {
+        return two_labels(kanji, &form[0..a], &form[p..n]);
+    }
+    let q = b + 1;
+    let d = label_end(form, q);
+    if d >= n {
+        return three_labels(kanji, &form[0..a], &form[p..b], &form[q..n]);
+    }
+    refused(5, 0)
+}
+
+// Given room, the rules on a text: 2 to 12. The text's table of kanji is lent.
+pub fn judge_with(kanji: &[u32], text: &[u32]) -> Judged
+    ensures { λ r. ⌜ r ≡ judged (todayWith (now (kanji .entry))) (now (text .entry)) ⌝ }
+{
+    let mut form = [0u32; 256];
+    let normal = normal::normal_form(text, &mut form);
+    let length = normal.length;
+    if normal.number != 0 {
+        return Judged {
+            number: normal.number,
+            place: normal.place,
+            class: Class::None,
+            form,
+            length,
+        };
+    }
+    let whole: &[u32] = &form;
+    let k = first_unfit(kanji, &whole[0..length]);
+    if k < length {
+        return Judged {
+            number: 4,
+            place: normal::place_of(text, k),
+            class: Class::None,
+            form,
+            length,
+        };
+    }
+    let verdict = name_rules(kanji, &whole[0..length]);
+    let class = verdict.class;
+    Judged {
+        number: verdict.number,
+        place: verdict.place,
+        class,
+        form,
+        length,
+    }
+}

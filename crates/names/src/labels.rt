@@ -1,0 +1,181 @@
+// What is asked of one label, and of the characters of a form.
+ghost use mathlib.Core.Path.{_≡_};
+ghost use mathlib.Core.Bool.{not, _&&_};
+ghost use Prim.Native.Nat.{_+_};
+ghost use lib.Dec.{ltb};
+ghost use lib.ListN.{drop};
+ghost use Rattle.lists.specs.Tests.{pick, firstOf, anyOf, same};
+ghost use Rattle.rules.specs.Labels.{period};
+ghost use Rattle.rules.specs.Permits.{labelChar};
+ghost use Rattle.rules.specs.Rules.{unfit, ordinary, isJapanese, hyphenEdge, bareDot, jp};
+ghost use Rattle.rules.specs.Editions.{todayWith};
+ghost use Rattle.names.specs.Steps.{labelNumber};
+
+pub const PERIOD: u32 = 0x2E;
+
+pub const HYPHEN: u32 = 0x2D;
+
+pub const MIDDLE_DOT: u32 = 0x30FB;
+
+// The index of the first period from `from` on, or the length.
+pub fn label_end(text: &[u32], from: usize) -> usize
+    ensures { λ r. ⌜ r ≡ from + firstOf period (drop from (now (text .entry))) ⌝ }
+{
+    let mut i = from;
+    while i < text.len() {
+        if text[i] == PERIOD {
+            return i;
+        }
+        i += 1;
+    }
+    i
+}
+
+// May a label hold c?
+pub fn in_label(kanji: &[u32], c: u32) -> bool
+    ensures { λ r. ⌜ r ≡ labelChar (todayWith (now (kanji .entry))) c ⌝ }
+{
+    if characters::is_ascii(c) {
+        return true;
+    }
+    characters::is_japanese(kanji, c)
+}
+
+fn is_unfit(kanji: &[u32], c: u32) -> bool
+    ensures { λ r. ⌜ r ≡ unfit (todayWith (now (kanji .entry))) c ⌝ }
+{
+    if c == PERIOD {
+        return false;
+    }
+    let fit = in_label(kanji, c);
+    !fit
+}
+
+// The index of the first character that is neither period nor may stand in a label, or the length.
+pub fn first_unfit(kanji: &[u32], form: &[u32]) -> usize
+    ensures { λ r. ⌜ r ≡ firstOf (unfit (todayWith (now (kanji .entry)))) (now (form .entry)) ⌝ }
+{
+    let mut i = 0;
+    while i < form.len() {
+        if is_unfit(kanji, form[i]) {
+            return i;
+        }
+        i += 1;
+    }
+    i
+}
+
+// Is it a Japanese label?
+pub fn any_japanese(kanji: &[u32], label: &[u32]) -> bool
+    ensures { λ r. ⌜ r ≡ isJapanese (todayWith (now (kanji .entry))) (now (label .entry)) ⌝ }
+{
+    let mut i = 0;
+    while i < label.len() {
+        if characters::is_japanese(kanji, label[i]) {
+            return true;
+        }
+        i += 1;
+    }
+    false
+}
+
+// A Japanese character other than 3006, 30FC and 30FB?
+pub fn is_ordinary(kanji: &[u32], c: u32) -> bool
+    ensures { λ r. ⌜ r ≡ ordinary (todayWith (now (kanji .entry))) c ⌝ }
+{
+    if c == 0x3006 {
+        return false;
+    }
+    if c == 0x30FC {
+        return false;
+    }
+    if c == MIDDLE_DOT {
+        return false;
+    }
+    characters::is_japanese(kanji, c)
+}
+
+fn any_ordinary(kanji: &[u32], label: &[u32]) -> bool
+    ensures { λ r. ⌜ r ≡ anyOf (ordinary (todayWith (now (kanji .entry)))) (now (label .entry)) ⌝ }
+{
+    let mut i = 0;
+    while i < label.len() {
+        if is_ordinary(kanji, label[i]) {
+            return true;
+        }
+        i += 1;
+    }
+    false
+}
+
+// A middle dot, and no Japanese character other than the three?
+fn has_bare_dot(kanji: &[u32], label: &[u32]) -> bool
+    ensures { λ r. ⌜ r ≡ bareDot (todayWith (now (kanji .entry))) (now (label .entry)) ⌝ }
+{
+    if lists::holds(label, MIDDLE_DOT) {
+        let helped = any_ordinary(kanji, label);
+        return !helped;
+    }
+    false
+}
+
+// Does it begin or end with a hyphen?
+fn has_edge(label: &[u32]) -> bool
+    ensures { λ r. ⌜ r ≡ hyphenEdge (now (label .entry)) ⌝ }
+{
+    let n = label.len();
+    if n == 0 {
+        return false;
+    }
+    if label[0] == HYPHEN {
+        return true;
+    }
+    label[n - 1] == HYPHEN
+}
+
+fn is_short(n: usize, japanese: bool) -> bool
+    ensures { λ r. ⌜ r ≡ (not japanese && ltb n 3) ⌝ }
+{
+    if japanese {
+        return false;
+    }
+    n < 3
+}
+
+fn is_long(n: usize, japanese: bool) -> bool
+    ensures { λ r. ⌜ r ≡ ltb (pick japanese 15 63) n ⌝ }
+{
+    if japanese {
+        return 15 < n;
+    }
+    63 < n
+}
+
+// The first of 7 to 10 that applies to a leftmost label, or 0.
+pub fn left_rule(kanji: &[u32], label: &[u32]) -> u8
+    ensures { λ r. ⌜ r ≡ labelNumber (todayWith (now (kanji .entry))) (now (label .entry)) ⌝ }
+{
+    if has_edge(label) {
+        return 7;
+    }
+    let n = label.len();
+    let japanese = any_japanese(kanji, label);
+    if is_short(n, japanese) {
+        return 8;
+    }
+    if is_long(n, japanese) {
+        return 9;
+    }
+    if has_bare_dot(kanji, label) {
+        return 10;
+    }
+    0
+}
+
+const JP: [u32; 2] = [0x6A, 0x70];
+
+pub fn is_jp(label: &[u32]) -> bool
+    ensures { λ r. ⌜ r ≡ same (now (label .entry)) jp ⌝ }
+{
+    lists::same(label, &JP)
+}
