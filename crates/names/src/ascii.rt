@@ -45,10 +45,7 @@ fn put_coded(label: &[u32], out: &mut [u8], at: usize) -> Put
     let coded = punycode::encode(label, &mut out[at..]);
     let number = coded.number;
     if number != 0 {
-        return Put {
-            coded: false,
-            at,
-        };
+        return Put { coded: false, at };
     }
     Put {
         coded: true,

@@ -1,0 +1,3 @@
+pub mod Typing
+mod Looking
+pub mod Nightly

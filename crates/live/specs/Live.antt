@@ -1,0 +1,38 @@
+-- The live check: document 01, 'The live check'. A state, what a step makes of it, and what a look shows, of any state.
+use mathlib.Core.List.{List, [], _∷_}
+use Prim.Native.Nat.{ℕ, _+_}
+use lib.Dec.{ltb}
+use lib.ListN.{take, set, replicate}
+use Rattle.lists.specs.Tests.{pick}
+use Rattle.names.specs.Calls.{judged}
+use Rattle.names.specs.declared.Judged.{Judged}
+use Rattle.rules.specs.Permits.{Permits}
+use Rattle.rules.specs.declared.Class.the-variants.{None}
+use Rattle.live.specs.declared.Live.{Live}
+
+-- it has read nothing
+unfoldable pub fresh : Live
+fresh = record { text = replicate 256 0; count = 0 }
+
+-- one code point more; 257 stands for more than 256, however many
+unfoldable pub stepped : Live → ℕ → Live
+stepped l c =
+    pick (ltb (l .count) 256)
+    (record { text = set (l .text) (l .count) c; count = l .count + 1 })
+    (record { text = l .text; count = 257 })
+
+-- what steps make of a state
+unfoldable pub typed : Live → List ℕ → Live
+typed l [] = l
+typed l (c ∷ cs) = typed (stepped l c) cs
+
+-- what a look shows, for any rules that say something of a text, and say `over` of every text past 256
+unfoldable pub lookedBy : {A : Type 0} → (List ℕ → A) → A → Live → A
+lookedBy says over l = pick (ltb 256 (l .count)) over (says (take (l .count) (l .text)))
+
+-- at the rules of a name: past 256 it shows 3 at place 256 and an empty text
+unfoldable pub tooLong : Judged
+tooLong = record { number = 3; place = 256; class = None; form = replicate 256 0; length = 0 }
+
+unfoldable pub looked : Permits → Live → Judged
+looked P l = lookedBy (judged P) tooLong l

@@ -1,0 +1,69 @@
+// The live check: a state that takes one code point at a time and shows, after each, what the nightly rules say of the text so far.
+// It keeps the text and no second set of rules: a look hands the text to `names`. Its meaning is defined in specs/Live; that what it
+// shows is what the nightly rules say is proofs/Nightly.
+ghost use mathlib.Core.Path.{_≡_};
+ghost use Rattle.rules.specs.Editions.{today, todayWith};
+ghost use Rattle.live.specs.Live.{fresh, stepped, tooLong, looked};
+
+// The code points typed, and how many; 257 stands for more than 256, however many.
+pub struct Live {
+    pub text: [u32; 256],
+    pub count: usize,
+}
+
+// What is shown from the 257th code point on: 3 at place 256, and no text.
+fn too_long() -> names::Judged
+    ensures { λ r. ⌜ r ≡ tooLong ⌝ }
+{
+    names::Judged {
+        number: 3,
+        place: 256,
+        class: rules::Class::None,
+        form: [0u32; 256],
+        length: 0,
+    }
+}
+
+impl Live {
+    pub fn fresh() -> Live
+        ensures { λ r. ⌜ r ≡ fresh ⌝ }
+    {
+        Live {
+            text: [0u32; 256],
+            count: 0,
+        }
+    }
+
+    pub fn step(mut self, c: u32) -> Live
+        ensures { λ r. ⌜ r ≡ stepped self c ⌝ }
+    {
+        let at = self.count;
+        if at < 256 {
+            self.text[at] = c;
+            self.count = at + 1;
+            self
+        } else {
+            self.count = 257;
+            self
+        }
+    }
+
+    // A look, with the table of kanji lent.
+    pub fn look_with(self, kanji: &[u32]) -> names::Judged
+        ensures { λ r. ⌜ r ≡ looked (todayWith (now (kanji .entry))) self ⌝ }
+    {
+        let n = self.count;
+        if 256 < n {
+            return too_long();
+        }
+        let whole: &[u32] = &self.text;
+        names::judge_with(kanji, &whole[0..n])
+    }
+
+    pub fn look(self) -> names::Judged
+        ensures { λ r. ⌜ r ≡ looked today self ⌝ }
+    {
+        let kanji = characters::KANJI;
+        self.look_with(&kanji)
+    }
+}
