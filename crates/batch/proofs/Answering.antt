@@ -1,0 +1,193 @@
+-- The answer to a line, on plain lists: from what the whole ASCII form's call says of the text, to the fields, to the line.
+-- Assumes nothing.
+use mathlib.Core.Path.{_≡_, refl, sym, ap, _∙_}
+use mathlib.Core.Bool.{Bool, true, false}
+use mathlib.Core.List.{List, [], _∷_}
+use mathlib.Core.Logic.{⊎-elim}
+use Prim.Native.Nat.{ℕ, suc, _+_, _-_, _≤_, _<_, min}
+use native.Mathlib.Omega.{arith}
+use lib.Dec.{eqb, ltb}
+use lib.ListN.{length, take, drop, length-append, length-drop, length-take}
+use lib.Seq.{take-all, take-at, length-take-le}
+use borrow.Author.Tests.{lt-ltb, le-ltb, le-leb, lt-leb, eq-eqb, ne-eqb, ltb-true}
+use Rattle.lists.specs.Tests.{pick, firstOf}
+use Rattle.lists.specs.Front.{written}
+use Rattle.lists.specs.Rows.{Answer, first, given}
+use Rattle.lists.proofs.Laws.{both, lt-or-le}
+use Rattle.lists.proofs.Fronts.{front, untouched}
+use Rattle.lists.proofs.Tables.{passed-over, hit, given-all}
+use Rattle.normal.specs.Normal.{normalForm}
+use Rattle.rules.specs.Labels.{labels}
+use Rattle.rules.specs.Permits.{Permits}
+use Rattle.rules.specs.Rules.{textRows, verdict}
+use Rattle.rules.specs.declared.Class.the-variants.{None}
+use Rattle.rules.specs.declared.Verdict.{Verdict}
+use Rattle.names.specs.Calls.{checked, Answers, asciiForm, asciiRows}
+use Rattle.names.specs.declared.Checked.{Checked}
+use Rattle.batch.specs.declared.fields.Parts.the-variants.{Two, Other}
+use Rattle.batch.specs.declared.answer.Wrote.{Wrote}
+use Rattle.batch.specs.Utf8.{decoded}
+use Rattle.batch.specs.Answer.{tab, idOf, nameOf, oneTab, goodId, badLine, answerLine, badAnswer, goodAnswer, answerTo}
+use Rattle.batch.specs.Fields.{partsOf}
+use Rattle.batch.specs.Answers.{roomy, answered, AnswersLine, PutsAt, fieldsAnswer}
+use Rattle.batch.proofs.LineFields.{any-first}
+use Rattle.batch.proofs.Pieces.{puts-length, puts-written}
+
+-- ---- a text: what the call for its whole ASCII form answered and wrote is what the line says
+
+abbrev told : Permits → List ℕ → Answer
+told P text = first (asciiRows P text 192)
+
+abbrev form : Permits → List ℕ → List ℕ
+form P text = asciiForm P (normalForm text)
+
+module _ (P : Permits) (text : List ℕ) {before after : List ℕ} {r : Checked} (A : Answers (asciiRows P text 192) text (form P text) before after r) where
+  says-number : r .number ≡ told P text .number
+  unfolding checked verdict
+  says-number = ap (λ (x : Checked). x .number) (A .result)
+
+  says-length : r .length ≡ length (given (told P text) (form P text))
+  unfolding checked
+  says-length = ap (λ (x : Checked). x .length) (A .result)
+
+  -- what was written had room
+  pub had-room : length after ≡ length before → r .length ≤ length before
+  unfolding written
+  had-room e =
+      let g : List ℕ = given (told P text) (form P text) in
+      omega (arith, says-length, ap length (A .buffer) ∙ length-append g (drop (length g) before), e)
+
+  module _ (id : List ℕ) where
+    with-form : (l : List ℕ) → l ≡ pick (eqb (told P text .number) 0) (form P text) (0x2D ∷ [])
+        → answerLine id (r .number) (r .place) (r .class) l ≡ goodAnswer P id text
+    unfolding goodAnswer checked
+    with-form l e =
+        let v : Verdict = verdict (told P text) (labels (normalForm text)) in
+        ap (λ (x : Checked). answerLine id (x .number) (x .place) (x .class) l) (A .result)
+        ∙ ap (λ (k : List ℕ). answerLine id (v .number) (v .place) (v .class) k) e
+
+    pub accepted-line : r .number ≡ 0 → answerLine id (r .number) (r .place) (r .class) (take (r .length - 0) after) ≡ goodAnswer P id text
+    accepted-line e =
+        let g : List ℕ = given (told P text) (form P text) in
+        let z : told P text .number ≡ 0 = sym says-number ∙ e in
+        let n : r .length - 0 ≡ length g = omega (arith, says-length) in
+        let stands : take (r .length - 0) after ≡ form P text =
+        ap (λ (k : ℕ). take k after) n ∙ ap (take (length g)) (A .buffer) ∙ front g before ∙ given-all (told P text) (form P text) z in
+        with-form (take (r .length - 0) after) (stands ∙ rw (eq-eqb (told P text .number) 0 z))
+
+    pub refused-line : (r .number ≡ 0 → ⊥) → answerLine id (r .number) (r .place) (r .class) (0x2D ∷ []) ≡ goodAnswer P id text
+    refused-line e = with-form (0x2D ∷ []) (rw (ne-eqb (told P text .number) 0 (λ z. e (says-number ∙ z))))
+
+-- ---- a text of more than 256 code points is refused with 3 at 256, whatever it holds
+
+module _ (P : Permits) (id : List ℕ) where
+  over : (text : List ℕ) → 256 < length text → first (asciiRows P text 192) ≡ record { number = 3; place = 256 }
+  unfolding asciiRows textRows
+  over text h =
+      passed-over 1 (ltb 192 192) 0 _ refl
+      ∙ passed-over 2 (eqb (length text) 0) 0 _ (ne-eqb (length text) 0 (λ e. omega arith))
+      ∙ hit 3 (ltb 256 (length text)) 256 _ (lt-ltb 256 (length text) h)
+
+  over-line : (text : List ℕ) → 256 < length text → goodAnswer P id text ≡ answerLine id 3 256 None (0x2D ∷ [])
+  unfolding goodAnswer verdict
+  over-line text h = rw (over text h)
+
+  -- so its first 257 say the same
+  pub cut : (text : List ℕ) → goodAnswer P id (take 257 text) ≡ goodAnswer P id text
+  cut text =
+      ⊎-elim
+      (λ h. over-line (take 257 text) (rw (length-take-le 257 text (omega arith)) (omega arith)) ∙ sym (over-line text h))
+      (λ h. ap (goodAnswer P id) (take-all 257 text (omega arith)))
+      (lt-or-le 256 (length text))
+
+-- ---- the fields
+
+-- what is lent of a decoded name: its first 257 code points
+pub lent-name : (codes before after : List ℕ) (n : ℕ) → length before ≡ 257 → after ≡ written (take (length before) codes) before → n ≡ min (length codes) 257
+    → take (n - 0) after ≡ take 257 codes
+unfolding written
+lent-name codes before after n e f g =
+    let k : n - 0 ≡ length (take 257 codes) = omega (arith, length-take 257 codes) in
+    ap (take (n - 0)) f ∙ rw e (rw k (take-at (take 257 codes) _ (length (take 257 codes)) refl))
+
+module _ (P : Permits) (id name : List ℕ) where
+  pub bad-id : goodId id ≡ false → fieldsAnswer P id name ≡ badAnswer
+  unfolding fieldsAnswer
+  bad-id e = simp e
+
+  pub bad-name : goodId id ≡ true → decoded name .ok ≡ false → fieldsAnswer P id name ≡ badAnswer
+  unfolding fieldsAnswer
+  bad-name e f = simp (e, f)
+
+  pub good-fields : (text : List ℕ) → goodId id ≡ true → decoded name .ok ≡ true → text ≡ take 257 (decoded name .codes) → fieldsAnswer P id name ≡ goodAnswer P id text
+  unfolding fieldsAnswer
+  good-fields text e f g = simp (e, f) (sym (ap (goodAnswer P id) g ∙ cut P id (decoded name .codes)))
+
+-- ---- the line
+
+module _ (P : Permits) (line : List ℕ) where
+  pub long-line : 1024 < length line → answerTo P line ≡ badAnswer
+  unfolding answerTo badLine
+  long-line h = simp (lt-ltb 1024 (length line) h)
+
+  module _ (h : length line ≤ 1024) where
+    pub no-parts : Other ≡ partsOf line → answerTo P line ≡ badAnswer
+    unfolding partsOf answerTo badLine
+    no-parts e = go (oneTab line) refl e
+      where
+        go : (b : Bool) → oneTab line ≡ b → Other ≡ pick b (Two (firstOf tab line)) Other → answerTo P line ≡ badAnswer
+        go true q p = absurd (let z : _≡_ {A = ℕ} 0 1 = cc in omega arith)
+        go false q p = simp (le-ltb 1024 (length line) h, q)
+
+    pub two-parts : oneTab line ≡ true → answerTo P line ≡ fieldsAnswer P (idOf line) (nameOf line)
+    unfolding answerTo badLine fieldsAnswer
+    two-parts q = simp (le-ltb 1024 (length line) h, q)
+
+-- where two parts are found, one tab is there, and it is the first
+pub record Parted (line : List ℕ) (t : ℕ) : Type 0 where
+  pub one : oneTab line ≡ true
+  pub at : t ≡ firstOf tab line
+  pub inside : t < length line
+
+pub parted : (line : List ℕ) (t : ℕ) → Two t ≡ partsOf line → Parted line t
+unfolding partsOf oneTab
+parted line t e = go (oneTab line) refl e
+  where
+    go : (b : Bool) → oneTab line ≡ b → Two t ≡ pick b (Two (firstOf tab line)) Other → Parted line t
+    go true q p =
+        let z : t ≡ firstOf tab line = cc in
+        record { one = q; at = z; inside = omega (arith, z, ltb-true (firstOf tab line) (length line) (sym (any-first tab line) ∙ both _ _ q .0)) }
+    go false q p = absurd (let z : _≡_ {A = ℕ} 0 1 = cc in omega arith)
+
+pub line-fields : (P : Permits) (line : List ℕ) (t : ℕ) → length line ≤ 1024 → Two t ≡ partsOf line
+    → answerTo P line ≡ fieldsAnswer P (take (t - 0) line) (take (length line - (t + 1)) (drop (t + 1) line))
+unfolding idOf nameOf
+line-fields P line t h e =
+    let p = parted line t e in
+    let z : t - 0 ≡ firstOf tab line = omega (arith, p .at) in
+    let w : t + 1 ≡ suc (firstOf tab line) = omega (arith, p .at) in
+    let d : List ℕ = drop (suc (firstOf tab line)) line in
+    two-parts P line h (p .one)
+    ∙ sym (rw (z, w) (ap (fieldsAnswer P (take (firstOf tab line) line)) (take-all (length line - suc (firstOf tab line)) d (omega (arith, length-drop (suc (firstOf tab line)) line)))))
+
+-- ---- the call
+
+module _ (P : Permits) (line before : List ℕ) where
+  pub no-room : length before < 256 → AnswersLine P line before before (record { done = false; length = 0 })
+  unfolding roomy answered
+  no-room h =
+      let e = lt-leb 256 (length before) h in
+      record { done = sym e; buffer = rw e (sym (untouched before)); length = rw e }
+
+  pub in-room : (after : List ℕ) (r : ℕ) → 256 ≤ length before → PutsAt (answerTo P line) before after 0 r → AnswersLine P line before after (record { done = true; length = r })
+  unfolding roomy answered
+  in-room after r h x =
+      let e = le-leb 256 (length before) h in
+      record { done = sym e; buffer = rw e (puts-written x); length = rw e (puts-length x) }
+
+-- two results that satisfy the contract are the same
+pub answers-once : (P : Permits) (line before a b : List ℕ) (r s : Wrote) → AnswersLine P line before a r → AnswersLine P line before b s → (r ≡ s) × (a ≡ b)
+answers-once P line before a b r s x y =
+    let d : r .done ≡ s .done = x .done ∙ sym (y .done) in
+    let l : r .length ≡ s .length = x .length ∙ sym (y .length) in
+    (λ i. record { done = d i; length = l i }, x .buffer ∙ sym (y .buffer))

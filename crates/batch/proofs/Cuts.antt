@@ -1,0 +1,128 @@
+-- Bytes with no LF among them only lengthen the line at hand, so a piece is such bytes, or such bytes, an LF and a rest.
+-- Assumes nothing.
+use mathlib.Core.Path.{_≡_, refl, sym, ap, _∙_}
+use mathlib.Core.Bool.{Bool, true, false}
+use mathlib.Core.List.{List, [], _∷_, _++_, append-nil}
+use Prim.Native.Nat.{ℕ, suc, _+_, _-_, _≤_, _<_}
+use native.Mathlib.Omega.{arith}
+use lib.Dec.{leb}
+use lib.ListN.{length, take, drop, getD, length-append}
+use lib.Seq.{append-snoc, split-at, take-at, length-take-le}
+use borrow.Author.Tests.{eqb-true, le-ltb}
+use Rattle.lists.specs.Tests.{pick, anyOf, firstOf}
+use Rattle.lists.proofs.Laws.{neither}
+use Rattle.batch.specs.declared.stream.Line.{Line}
+use Rattle.batch.specs.Lines.{linesFrom}
+use Rattle.batch.specs.Stream.{lf, fresh, pushed, pushedAll, after, most, closed, wrote, usedFrom, used}
+use Rattle.batch.proofs.LineFields.{any-first}
+use Rattle.batch.proofs.Whole.{by}
+
+-- ---- the first entry of which a test holds
+
+module _ (f : ℕ → Bool) where
+  none-found : (s : List ℕ) → length s ≤ firstOf f s → anyOf f s ≡ false
+  none-found s h = any-first f s ∙ le-ltb (firstOf f s) (length s) h
+
+  none-before : (s : List ℕ) → anyOf f (take (firstOf f s) s) ≡ false
+  unfolding anyOf firstOf
+  none-before [] = refl
+  none-before (b ∷ s) =
+      by (λ (x : Bool). anyOf f (take (pick x 0 (suc (firstOf f s))) (b ∷ s)) ≡ false) (f b) (λ e. refl) (λ e. rw e (none-before s))
+
+  holds-there : (s : List ℕ) → firstOf f s < length s → f (getD s (firstOf f s) 0) ≡ true
+  unfolding firstOf
+  holds-there [] h = absurd (omega arith)
+  holds-there (b ∷ s) h =
+      by (λ (x : Bool). pick x 0 (suc (firstOf f s)) < suc (length s) → f (getD (b ∷ s) (pick x 0 (suc (firstOf f s))) 0) ≡ true) (f b)
+      (λ e k. e) (λ e k. holds-there s (omega arith)) h
+
+-- ---- bytes with no LF, and what comes after them
+
+-- no LF is among the bytes
+abbrev pub Plain : List ℕ → Type 0
+Plain p = anyOf lf p ≡ false
+
+split : (b : ℕ) (p : List ℕ) → Plain (b ∷ p) → (lf b ≡ false) × Plain p
+unfolding anyOf
+split b p h = neither (lf b) (anyOf lf p) h
+
+after-plain : (l : Line) (p : List ℕ) → Plain p → (s : List ℕ) → after l (p ++ s) ≡ after (pushedAll l p) s
+unfolding after pushedAll
+after-plain l [] h s = refl
+after-plain l (b ∷ p) h s = let k = split b p h in rw (k .0) (after-plain (pushed l b) p (k .1) s)
+
+pub lines-plain : (q p : List ℕ) → Plain p → (s : List ℕ) → linesFrom q (p ++ s) ≡ linesFrom (q ++ p) s
+unfolding linesFrom lf
+lines-plain q [] h s = ap (λ (l : List ℕ). linesFrom l s) (sym (append-nil q))
+lines-plain q (b ∷ p) h s =
+    let k = split b p h in
+    rw (k .0) (lines-plain (q ++ b ∷ []) p (k .1) s ∙ ap (λ (l : List ℕ). linesFrom l s) (append-snoc q b p))
+
+module _ (answer : List ℕ → List ℕ) (bad : List ℕ) where
+  wrote-plain : (l : Line) (p : List ℕ) → Plain p → (s : List ℕ) → wrote answer bad l (p ++ s) ≡ wrote answer bad (pushedAll l p) s
+  unfolding wrote pushedAll
+  wrote-plain l [] h s = refl
+  wrote-plain l (b ∷ p) h s = let k = split b p h in rw (k .0) (wrote-plain (pushed l b) p (k .1) s)
+
+  used-plain : (l : Line) (p : List ℕ) → Plain p → (s : List ℕ) (room : ℕ)
+      → usedFrom answer bad l (p ++ s) room ≡ length p + usedFrom answer bad (pushedAll l p) s room
+  unfolding usedFrom pushedAll
+  used-plain l [] h s room = omega arith
+  used-plain l (b ∷ p) h s room = let k = split b p h in rw (k .0) (omega (arith, used-plain (pushed l b) p (k .1) s room))
+
+-- ---- a piece in which no line ends
+
+module _ (l : Line) (t : List ℕ) (h : length t ≤ firstOf lf t) where
+  pub none-after : after l t ≡ pushedAll l t
+  unfolding after
+  none-after = ap (after l) (sym (append-nil t)) ∙ after-plain l t (none-found lf t h) []
+
+  module _ (answer : List ℕ → List ℕ) (bad : List ℕ) where
+    pub none-wrote : wrote answer bad l t ≡ []
+    unfolding wrote
+    none-wrote = ap (wrote answer bad l) (sym (append-nil t)) ∙ wrote-plain answer bad l t (none-found lf t h) []
+
+    pub none-used : (room : ℕ) → usedFrom answer bad l t room ≡ length t
+    unfolding usedFrom
+    none-used room =
+        ap (λ (x : List ℕ). usedFrom answer bad l x room) (sym (append-nil t))
+        ∙ used-plain answer bad l t (none-found lf t h) [] room ∙ omega arith
+
+-- ---- a piece with an LF: the line up to it, and the rest
+
+module _ (l : Line) (t : List ℕ) (h : firstOf lf t < length t) where
+  abbrev u : ℕ
+  u = firstOf lf t
+
+  abbrev p : List ℕ
+  p = take u t
+
+  parts : t ≡ p ++ 0x0A ∷ drop (suc u) t
+  unfolding lf
+  parts = split-at t u 0 h ∙ ap (λ (b : ℕ). p ++ b ∷ drop (suc u) t) (eqb-true _ _ (holds-there lf t h))
+
+  len : length p ≡ u
+  len = length-take-le u t (omega arith)
+
+  with-lf : take (suc u) t ≡ p ++ 0x0A ∷ []
+  with-lf = ap (take (suc u)) (parts ∙ sym (append-snoc p 0x0A (drop (suc u) t)))
+      ∙ take-at (p ++ 0x0A ∷ []) (drop (suc u) t) (suc u) (omega (arith, length-append p (0x0A ∷ []), len))
+
+  pub line-after : after l (take (suc u) t) ≡ fresh
+  unfolding after lf
+  line-after = rw with-lf (after-plain l p (none-before lf t) (0x0A ∷ []))
+
+  module _ (answer : List ℕ → List ℕ) (bad : List ℕ) where
+    pub line-wrote : wrote answer bad l (take (suc u) t) ≡ closed answer bad (pushedAll l p)
+    unfolding wrote lf
+    line-wrote = rw with-lf (wrote-plain answer bad l p (none-before lf t) (0x0A ∷ []) ∙ append-nil _)
+
+    pub line-used : (room : ℕ) → usedFrom answer bad l t room
+        ≡ suc u + used answer bad fresh (drop (suc u) t) (room - length (closed answer bad (pushedAll l p)))
+    unfolding usedFrom used lf
+    line-used room =
+        let r : ℕ = room - length (closed answer bad (pushedAll l p)) in
+        let v : ℕ = usedFrom answer bad fresh (drop (suc u) t) r in
+        ap (λ (x : List ℕ). usedFrom answer bad l x room) parts
+        ∙ used-plain answer bad l p (none-before lf t) (0x0A ∷ drop (suc u) t) room
+        ∙ by (λ (x : Bool). length p + pick x (suc v) 1 ≡ suc u + pick x v 0) (leb most r) (λ e. omega (arith, len)) (λ e. omega (arith, len))

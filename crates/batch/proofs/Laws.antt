@@ -1,0 +1,105 @@
+-- What follows of the calls that feed a stream: two answers that meet a contract are one, a call with room goes on, and any
+-- sequence of calls and then a finish wrote the batch of all that was used, since each takes up where the last one stopped.
+-- Assumes nothing.
+use mathlib.Core.Path.{_≡_, refl, sym, ap, _∙_}
+use mathlib.Core.Bool.{Bool, true}
+use mathlib.Core.List.{List, [], _∷_, _++_}
+use Prim.Native.Nat.{ℕ, suc, _-_, _≤_, _<_}
+use native.Mathlib.Omega.{arith}
+use lib.Dec.{leb}
+use lib.ListN.{length, take, drop, take-append-drop}
+use borrow.Author.Tests.{le-leb}
+use Rattle.lists.specs.Tests.{pick}
+use Rattle.lists.specs.Front.{written}
+use Rattle.rules.specs.Editions.{todayWith}
+use Rattle.batch.specs.declared.stream.Fed.{Fed}
+use Rattle.batch.specs.declared.stream.Finished.{Finished}
+use Rattle.batch.specs.declared.stream.Line.{Line}
+use Rattle.batch.specs.Answer.{answerTo, badAnswer}
+use Rattle.batch.specs.Lines.{batch}
+use Rattle.batch.specs.Stream.{lf, fresh, pushed, after, most, closed, wrote, ended, usedFrom, used}
+use Rattle.batch.specs.Feed.{Stands, Feeds, Finishes}
+use Rattle.batch.proofs.Whole.{by, after-append, wrote-append, whole}
+use Rattle.batch.proofs.Lent.{at-front}
+use Rattle.batch.proofs.Asked.{too-long}
+
+-- ---- two answers that meet a contract are one, the buffers too
+
+stands-one : {xs ys before a b : List ℕ} {m n : ℕ} → xs ≡ ys → Stands xs before a m → Stands ys before b n → (a ≡ b) × (m ≡ n)
+stands-one {before = before} e p q = (p .buffer ∙ ap (λ (xs : List ℕ). written xs before) e ∙ sym (q .buffer), p .count ∙ ap length e ∙ sym (q .count))
+
+module _ {answer : List ℕ → List ℕ} {bad : List ℕ} {l : Line} {before a b : List ℕ} where
+  pub feeds-one : {s : List ℕ} {r q : Fed} → Feeds answer bad l s before a r → Feeds answer bad l s before b q → (a ≡ b) × (r ≡ q)
+  feeds-one {s} {r} {q} f g =
+      let u : r .used ≡ q .used = f .amount ∙ sym (g .amount) in
+      let t = stands-one (ap (λ (n : ℕ). wrote answer bad l (take n s)) u) (f .text) (g .text) in
+      let n : r .line ≡ q .line = f .next ∙ ap (λ (n : ℕ). after l (take n s)) u ∙ sym (g .next) in
+      let w : r .wrote ≡ q .wrote = t .1 in
+      (t .0, λ i. record { used = u i; wrote = w i; line = n i })
+
+  pub finishes-one : {r q : Finished} → Finishes answer bad l before a r → Finishes answer bad l before b q → (a ≡ b) × (r ≡ q)
+  finishes-one {r} {q} f g =
+      let d : r .done ≡ q .done = f .done ∙ sym (g .done) in
+      let t = stands-one refl (f .text) (g .text) in
+      let w : r .wrote ≡ q .wrote = t .1 in
+      (t .0, λ i. record { done = d i; wrote = w i })
+
+module _ (answer : List ℕ → List ℕ) (bad : List ℕ) where
+  -- ---- no more of a piece is used than there is, and with room for an answer some of it is
+
+  used-from : (l : Line) (s : List ℕ) (room : ℕ) → usedFrom answer bad l s room ≤ length s
+  unfolding usedFrom
+  used-from l [] room = omega arith
+  used-from l (b ∷ s) room =
+      let r : ℕ = room - length (closed answer bad l) in
+      by (λ (x : Bool). pick x (pick (leb most r) (suc (usedFrom answer bad fresh s r)) 1) (suc (usedFrom answer bad (pushed l b) s room)) ≤ suc (length s)) (lf b)
+      (λ e. by (λ (y : Bool). pick y (suc (usedFrom answer bad fresh s r)) 1 ≤ suc (length s)) (leb most r) (λ f. omega (arith, used-from fresh s r)) (λ f. omega arith))
+      (λ e. omega (arith, used-from (pushed l b) s room))
+
+  pub used-within : (l : Line) (s : List ℕ) (room : ℕ) → used answer bad l s room ≤ length s
+  unfolding used
+  used-within l s room = by (λ (x : Bool). pick x (usedFrom answer bad l s room) 0 ≤ length s) (leb most room) (λ e. used-from l s room) (λ e. omega arith)
+
+  pub goes-on : (l : Line) (b : ℕ) (s : List ℕ) {room : ℕ} → most ≤ room → 0 < used answer bad l (b ∷ s) room
+  unfolding used usedFrom
+  goes-on l b s {room} h =
+      let r : ℕ = room - length (closed answer bad l) in
+      rw (le-leb most room h)
+      (by (λ (x : Bool). 0 < pick x (pick (leb most r) (suc (usedFrom answer bad fresh s r)) 1) (suc (usedFrom answer bad (pushed l b) s room))) (lf b)
+      (λ e. by (λ (y : Bool). 0 < pick y (suc (usedFrom answer bad fresh s r)) 1) (leb most r) (λ f. omega arith) (λ f. omega arith))
+      (λ e. omega arith))
+
+  -- ---- a session of calls: each takes the line that the last one gave, any bytes and any buffer, and what it did not use comes again
+
+  pub data Session : List ℕ → List ℕ → Line → Type 0 where
+    begin : Session [] [] fresh
+    call : {i w : List ℕ} {l : Line} {s before after′ : List ℕ} {r : Fed} → Session i w l → Feeds answer bad l s before after′ r
+        → Session (i ++ take (r .used) s) (w ++ take (r .wrote) after′) (r .line)
+
+  session : {i w : List ℕ} {l : Line} → Session i w l → (w ≡ wrote answer bad fresh i) × (l ≡ after fresh i)
+  unfolding wrote after
+  session begin = (refl, refl)
+  session (call {i} {w} {l} {s} {r = r} k f) =
+      let h = session k in
+      let t : List ℕ = take (r .used) s in
+      (rw (at-front (f .text), h .0, h .1) (sym (wrote-append answer bad fresh i t)), f .next ∙ rw (h .1) (sym (after-append fresh i t)))
+
+  -- THE THEOREM for the code: what was used by a session's calls, and then its end, wrote the batch of it
+  pub session-is-batch : ((l : List ℕ) → 1024 < length l → answer l ≡ bad)
+      → {i w : List ℕ} {l : Line} {before after′ : List ℕ} {r : Finished} → Session i w l → Finishes answer bad l before after′ r → r .done ≡ true
+      → w ++ take (r .wrote) after′ ≡ batch answer i
+  session-is-batch over {i} {w} {l} {before} {after′} {r} k f d =
+      let h = session k in
+      let e : leb most (length before) ≡ true = sym (f .done) ∙ d in
+      let t : take (r .wrote) after′ ≡ ended answer bad l = at-front (rw e at (f .text)) in
+      rw (t, h .0, h .1) (sym (whole answer bad over i))
+
+-- what is left of a piece is fed as a piece
+pub again : (l : Line) (s : List ℕ) (u : ℕ) → after l s ≡ after (after l (take u s)) (drop u s)
+again l s u = ap (after l) (sym (take-append-drop u s)) ∙ after-append l (take u s) (drop u s)
+
+-- and at the answers of the edition with this table of kanji
+pub batch-of : (table : List ℕ) {i w : List ℕ} {l : Line} {before after′ : List ℕ} {r : Finished} → Session (answerTo (todayWith table)) badAnswer i w l
+    → Finishes (answerTo (todayWith table)) badAnswer l before after′ r → r .done ≡ true
+    → w ++ take (r .wrote) after′ ≡ batch (answerTo (todayWith table)) i
+batch-of table = session-is-batch (answerTo (todayWith table)) badAnswer (too-long (todayWith table))

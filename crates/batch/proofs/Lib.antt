@@ -1,0 +1,16 @@
+pub mod Encoding
+mod Decoding
+mod LineFields
+pub mod OneTab
+mod Pieces
+mod Answering
+pub mod Whole
+mod Asked
+pub mod Cuts
+pub mod Lent
+mod Turns
+mod Feeding
+pub mod Laws
+pub mod Neighbours
+pub mod Longest
+pub mod Digits

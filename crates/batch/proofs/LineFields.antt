@@ -1,0 +1,106 @@
+-- The fields of a line, on plain lists: a tab is there exactly where the first one stands before the end, and so of the name; what
+-- makes a byte one of an id.
+-- Assumes nothing.
+use mathlib.Core.Path.{_≡_, refl, sym, ap, _∙_}
+use mathlib.Core.Bool.{Bool, true, false, _||_}
+use mathlib.Core.List.{List, [], _∷_}
+use mathlib.Core.Logic.{⊎-elim}
+use Prim.Native.Nat.{ℕ, suc, _+_, _-_, _≤_, _<_}
+use native.Mathlib.Numerals.{add-one}
+use native.Mathlib.Omega.{arith}
+use lib.Dec.{eqb, ltb}
+use lib.ListN.{length, length-drop}
+use borrow.Author.Tests.{lt-ltb, le-ltb, eq-eqb, ne-eqb}
+use Rattle.lists.specs.Tests.{pick, within, anyOf, allOf, firstOf}
+use Rattle.lists.proofs.Laws.{both, inside, outside, in-range, or-left, or-right, lt-or-le}
+use Rattle.batch.specs.declared.fields.Stretch.{Stretch}
+use Rattle.batch.specs.declared.fields.Parts.the-variants.{Two, Other}
+use Rattle.batch.specs.Answer.{tab, nameOf, oneTab, idByte, goodId}
+use Rattle.batch.specs.Fields.{fieldAt, partsOf}
+
+-- ---- exactly one tab
+
+below-suc : (a b : ℕ) → ltb a b ≡ ltb (suc a) (suc b)
+below-suc a b =
+    ⊎-elim (λ h. lt-ltb a b h ∙ sym (lt-ltb (suc a) (suc b) (omega arith))) (λ h. le-ltb a b h ∙ sym (le-ltb (suc a) (suc b) (omega arith)))
+    (lt-or-le a b)
+
+pub any-first : (f : ℕ → Bool) (xs : List ℕ) → anyOf f xs ≡ ltb (firstOf f xs) (length xs)
+unfolding anyOf firstOf
+any-first f [] = refl
+any-first f (x ∷ xs) = go (f x) (any-first f xs)
+  where
+    go : (b : Bool) → anyOf f xs ≡ ltb (firstOf f xs) (length xs) → b || anyOf f xs ≡ ltb (pick b 0 (suc (firstOf f xs))) (suc (length xs))
+    go true e = sym (lt-ltb 0 (suc (length xs)) (omega arith))
+    go false e = e ∙ below-suc (firstOf f xs) (length xs)
+
+module _ (line : List ℕ) (f g : Stretch) (ef : f ≡ fieldAt line 0) where
+  tab-at : f .end ≡ firstOf tab line
+  tab-at = omega (arith, ap (λ (x : Stretch). x .end) ef)
+
+  pub no-tab : length line ≤ f .end → Other ≡ partsOf line
+  unfolding partsOf oneTab
+  no-tab h = simp (any-first tab line, le-ltb (firstOf tab line) (length line) (omega (arith, tab-at)))
+
+  module _ (h : f .end < length line) (eg : g ≡ fieldAt line (f .end + 1)) where
+    name-ends : g .end ≡ suc (firstOf tab line) + firstOf tab (nameOf line)
+    unfolding nameOf
+    name-ends = ap (λ (x : Stretch). x .end) eg ∙ rw (add-one, tab-at)
+
+    name-length : length (nameOf line) ≡ length line - suc (firstOf tab line)
+    unfolding nameOf
+    name-length = length-drop (suc (firstOf tab line)) line
+
+    some-tab : anyOf tab line ≡ true
+    some-tab = any-first tab line ∙ lt-ltb (firstOf tab line) (length line) (omega (arith, tab-at))
+
+    pub two-tabs : g .end < length line → Other ≡ partsOf line
+    unfolding partsOf oneTab
+    two-tabs k = simp (some-tab, any-first tab (nameOf line), lt-ltb (firstOf tab (nameOf line)) (length (nameOf line)) (omega (arith, name-ends, name-length)))
+
+    pub one-tab : length line ≤ g .end → Two (f .end) ≡ partsOf line
+    unfolding partsOf oneTab
+    one-tab k =
+        simp (some-tab, any-first tab (nameOf line), le-ltb (firstOf tab (nameOf line)) (length (nameOf line)) (omega (arith, name-ends, name-length))) (ap Two tab-at)
+
+-- ---- a byte of an id
+
+module _ (b : ℕ) where
+  pub upper : 0x41 ≤ b → b ≤ 0x5A → true ≡ idByte b
+  unfolding idByte
+  upper p q = sym (or-left (within 0x41 0x5A b) _ (inside 0x41 0x5A b p q))
+
+  pub lower : 0x61 ≤ b → b ≤ 0x7A → true ≡ idByte b
+  unfolding idByte
+  lower p q =
+      let e = or-left (within 0x61 0x7A b) (within 0x30 0x39 b || eqb b 0x2D) (inside 0x61 0x7A b p q) in
+      sym (or-right (within 0x41 0x5A b) _ e)
+
+  pub digit : 0x30 ≤ b → b ≤ 0x39 → true ≡ idByte b
+  unfolding idByte
+  digit p q =
+      let e = or-left (within 0x30 0x39 b) (eqb b 0x2D) (inside 0x30 0x39 b p q) in
+      sym (or-right (within 0x41 0x5A b) _ (or-right (within 0x61 0x7A b) _ e))
+
+  pub hyphen : b ≡ 0x2D → true ≡ idByte b
+  unfolding idByte
+  hyphen e = sym (or-right (within 0x41 0x5A b) _ (or-right (within 0x61 0x7A b) _ (or-right (within 0x30 0x39 b) _ (eq-eqb b 0x2D e))))
+
+  pub no-id-byte : (0x41 ≤ b → b ≤ 0x5A → ⊥) → (0x61 ≤ b → b ≤ 0x7A → ⊥) → (0x30 ≤ b → b ≤ 0x39 → ⊥) → (b ≡ 0x2D → ⊥) → false ≡ idByte b
+  unfolding idByte
+  no-id-byte p q r s = simp (outside 0x41 0x5A b p, outside 0x61 0x7A b q, outside 0x30 0x39 b r, ne-eqb b 0x2D s)
+
+-- ---- an id
+
+module _ (id : List ℕ) where
+  pub wrong-length : (1 ≤ length id → length id ≤ 32 → ⊥) → false ≡ goodId id
+  unfolding goodId
+  wrong-length h = simp (outside 1 32 (length id) h)
+
+  pub right-length : 1 ≤ length id → length id ≤ 32 → {b : Bool} → b ≡ allOf idByte id → b ≡ goodId id
+  unfolding goodId
+  right-length p q e = simp (inside 1 32 (length id) p q) e
+
+  pub id-length : goodId id ≡ true → length id ≤ 32
+  unfolding goodId
+  id-length e = in-range 1 32 (length id) (both (within 1 32 (length id)) (allOf idByte id) e .0) .1

@@ -1,0 +1,61 @@
+-- `close` meets its contract: a line of up to 1,024 bytes is asked itself, and any line that is too long stands for the others.
+-- Assumes nothing.
+use native.Mathlib.Omega.{arith}
+use Rattle.rules.specs.Editions.{todayWith}
+use Rattle.batch.specs.Answer.{answerTo, badAnswer}
+use Rattle.batch.proofs.Asked.{too-long, writes}
+use Rattle.batch.proofs.Turns.{closes-short, closes-over}
+use borrow.Author.Needs.{needs}
+use Rattle.batch.proofs.stream.close.Statement.{statement}
+use Rattle.batch.proofs.stream.close.Tie as tie
+
+sub-answer : tie.Need-sub-answer
+sub-answer c = search needs
+
+part-answer-start : tie.Need-part-answer-start
+part-answer-start c = search needs
+
+part-answer-end : tie.Need-part-answer-end
+part-answer-end c = search needs
+
+answer-requires : tie.Need-answer-requires
+answer-requires c κs = search needs
+
+same-length : tie.Need-same-length
+same-length c = search needs
+
+returns : tie.Need-returns
+returns c =
+    let a = c .before .before .before .before .before .before .before .before .before .before .before .args in
+    let P = todayWith (a .kanji .now) in
+    closes-short (answerTo P) badAnswer (too-long P) (a .t2) (omega arith) (writes (c .before .before .answer .ensures))
+
+slice-aggregate-answer : tie.Need-slice-aggregate-answer
+slice-aggregate-answer c = search needs
+
+answer-requires-2 : tie.Need-answer-requires-2
+answer-requires-2 c κs = search needs
+
+same-length-2 : tie.Need-same-length-2
+same-length-2 c = search needs
+
+returns-2 : tie.Need-returns-2
+returns-2 c =
+    let a = c .before .before .before .before .before .before .before .before .args in
+    let P = todayWith (a .kanji .now) in
+    closes-over (answerTo P) badAnswer (too-long P) (a .t2) (omega arith) (writes (c .before .before .answer2 .ensures))
+
+pub close-spec : {M : Type 1} → statement M
+close-spec =
+    tie.close
+    (tie.spec
+    sub-answer
+    part-answer-start
+    part-answer-end
+    answer-requires
+    same-length
+    returns
+    slice-aggregate-answer
+    answer-requires-2
+    same-length-2
+    returns-2)

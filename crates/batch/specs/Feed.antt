@@ -1,0 +1,45 @@
+-- What the calls that feed a stream say, for any answer to a line: each decides all of its result and every entry of the buffer.
+use mathlib.Core.List.{List, []}
+use mathlib.Core.Path.{_≡_}
+use Prim.Native.Nat.{ℕ, _-_, _≤_}
+use lib.Dec.{leb}
+use lib.ListN.{length, take, drop}
+use Rattle.lists.specs.Tests.{pick, firstOf}
+use Rattle.lists.specs.Front.{written}
+use Rattle.batch.specs.declared.answer.Wrote.{Wrote}
+use Rattle.batch.specs.declared.stream.Fed.{Fed}
+use Rattle.batch.specs.declared.stream.Finished.{Finished}
+use Rattle.batch.specs.declared.stream.Line.{Line}
+use Rattle.batch.specs.declared.stream.Scanned.{Scanned}
+use Rattle.batch.specs.Stream.{lf, fresh, after, most, wrote, ended, used}
+
+-- xs stands at the buffer's start, n is its length, and past it is what was there before
+pub record Stands (xs before after : List ℕ) (n : ℕ) : Type 0 where
+  pub count : n ≡ length xs
+  pub buffer : after ≡ written xs before
+
+-- with room for the longest answer xs is written, and nothing without
+pub record Writes (xs before after : List ℕ) (r : Wrote) : Type 0 where
+  pub done : r .done ≡ leb most (length before)
+  pub text : Stands (pick (leb most (length before)) xs []) before after (r .length)
+
+module _ (answer : List ℕ → List ℕ) (bad : List ℕ) where
+  -- the lines that end in s are answered while there is room: up to `at`, the start of a line
+  pub record Scans (s before after′ : List ℕ) (r : Scanned) : Type 0 where
+    pub inside : r .at ≤ length s
+    pub text : Stands (wrote answer bad fresh (take (r .at) s)) before after′ (r .length)
+    pub fits : r .length ≤ length before
+    pub whole : after fresh (take (r .at) s) ≡ fresh
+    pub all : used answer bad fresh s (length before) ≡ pick (leb most (length before - r .length)) (length s) (r .at)
+    pub last : most ≤ length before - r .length → length (drop (r .at) s) ≤ firstOf lf (drop (r .at) s)
+
+  -- how much of the piece is used, what is written for it, and the line that is carried on
+  pub record Feeds (l : Line) (s before after′ : List ℕ) (r : Fed) : Type 0 where
+    pub amount : r .used ≡ used answer bad l s (length before)
+    pub text : Stands (wrote answer bad l (take (r .used) s)) before after′ (r .wrote)
+    pub next : r .line ≡ after l (take (r .used) s)
+
+  -- the end of the input: with room for the longest answer a last line without LF is answered, and nothing is done without
+  pub record Finishes (l : Line) (before after′ : List ℕ) (r : Finished) : Type 0 where
+    pub done : r .done ≡ leb most (length before)
+    pub text : Stands (pick (leb most (length before)) (ended answer bad l) []) before after′ (r .wrote)

@@ -1,0 +1,204 @@
+// The answer to a line: id, number, place, class and ASCII form, tab-parted and ended by LF.
+use crate::fields::Parts;
+use crate::fields::is_id;
+use crate::fields::split;
+use crate::utf8::decode;
+use rules::Class;
+ghost use mathlib.Core.Path.{_≡_};
+ghost use mathlib.Core.List.{[], _∷_};
+ghost use Prim.Native.Nat.{_+_, _≤_, _<_, _%_, min};
+ghost use lib.ListN.{length};
+ghost use Rattle.rules.specs.Editions.{todayWith};
+ghost use Rattle.batch.specs.Answer.{decimal, letter, answerLine, badAnswer, goodAnswer, answerTo};
+ghost use Rattle.batch.specs.Answers.{AnswersLine, PutsAt, frontOf, fieldsAnswer};
+
+const TAB: u8 = 0x09;
+
+const LF: u8 = 0x0A;
+
+const HYPHEN: u8 = 0x2D;
+
+// Room for the longest answer.
+const MOST: usize = 256;
+
+// Whether there was room for the longest answer, and how many bytes were written.
+pub struct Wrote {
+    pub done: bool,
+    pub length: usize,
+}
+
+// Puts s into out from n on, and answers the place past it.
+fn put(out: &mut [u8], n: usize, s: &[u8]) -> usize
+    requires { ⌜ n + length (now s) ≤ length (now out) ⌝ }
+    ensures { λ r. ⌜ PutsAt (now (s .entry)) (now (out .entry)) (now (out .exit)) n r ⌝ }
+{
+    let mut i = 0;
+    while i < s.len() {
+        out[n + i] = s[i];
+        i += 1;
+    }
+    n + i
+}
+
+fn put_byte(out: &mut [u8], n: usize, b: u8) -> usize
+    requires { ⌜ n < length (now out) ⌝ }
+    ensures { λ r. ⌜ PutsAt (b ∷ []) (now (out .entry)) (now (out .exit)) n r ⌝ }
+{
+    out[n] = b;
+    n + 1
+}
+
+// Puts the last digit of a number.
+fn put_digit(out: &mut [u8], n: usize, x: usize) -> usize
+    requires { ⌜ n < length (now out) ⌝ }
+    ensures { λ r. ⌜ PutsAt ((0x30 + x % 10) ∷ []) (now (out .entry)) (now (out .exit)) n r ⌝ }
+{
+    let digit = x % 10;
+    put_byte(out, n, 0x30 + digit as u8)
+}
+
+// Puts a number of at most three digits.
+fn put_decimal(out: &mut [u8], n: usize, x: usize) -> usize
+    requires { ⌜ n + 3 ≤ length (now out) ⌝ }
+    ensures { λ r. ⌜ PutsAt (decimal x) (now (out .entry)) (now (out .exit)) n r ⌝ }
+{
+    if x < 10 {
+        return put_digit(out, n, x);
+    }
+    let tens = x / 10;
+    if tens < 10 {
+        let a = put_digit(out, n, tens);
+        return put_digit(out, a, x);
+    }
+    let a = put_digit(out, n, tens / 10);
+    let b = put_digit(out, a, tens);
+    put_digit(out, b, x)
+}
+
+fn class_letter(class: Class) -> u8
+    ensures { λ r. ⌜ r ≡ letter class ⌝ }
+{
+    match class {
+        Class::General => 0x47,
+        Class::Prefecture => 0x50,
+        Class::None => 0x2D,
+    }
+}
+
+// Puts id, number and place, a tab after each, at the start of out.
+fn put_front(id: &[u8], number: usize, place: usize, out: &mut [u8]) -> usize
+    requires { ⌜ length (now id) + 9 ≤ length (now out) ⌝ }
+    ensures { λ r. ⌜ PutsAt (frontOf (now (id .entry)) number place) (now (out .entry)) (now (out .exit)) 0 r ⌝ }
+{
+    let a = put(out, 0, id);
+    let b = put_byte(out, a, TAB);
+    let c = put_decimal(out, b, number);
+    let d = put_byte(out, c, TAB);
+    let e = put_decimal(out, d, place);
+    put_byte(out, e, TAB)
+}
+
+// Puts an answer line at the start of out.
+fn put_line(
+    id: &[u8],
+    number: usize,
+    place: usize,
+    class: Class,
+    form: &[u8],
+    out: &mut [u8],
+) -> usize
+    requires { ⌜ length (now id) + length (now form) + 12 ≤ length (now out) ⌝ }
+    ensures { λ r. ⌜ PutsAt (answerLine (now (id .entry)) number place class (now (form .entry))) (now (out .entry)) (now (out .exit)) 0 r ⌝ }
+{
+    let letter = class_letter(class);
+    let a = put_front(id, number, place, out);
+    let b = put_byte(out, a, letter);
+    let c = put_byte(out, b, TAB);
+    let d = put(out, c, form);
+    put_byte(out, d, LF)
+}
+
+// Puts the answer to a bad line.
+fn put_bad(out: &mut [u8]) -> usize
+    requires { ⌜ 256 ≤ length (now out) ⌝ }
+    ensures { λ r. ⌜ PutsAt badAnswer (now (out .entry)) (now (out .exit)) 0 r ⌝ }
+{
+    let none = [HYPHEN];
+    put_line(&none, 16, 0, Class::None, &none, out)
+}
+
+// Puts the answer to a line with this id and this text as its name.
+fn put_text(kanji: &[u32], id: &[u8], text: &[u32], out: &mut [u8]) -> usize
+    requires { ⌜ (length (now id) ≤ 32) × (256 ≤ length (now out)) ⌝ }
+    ensures { λ r. ⌜ PutsAt (goodAnswer (todayWith (now (kanji .entry))) (now (id .entry)) (now (text .entry))) (now (out .entry)) (now (out .exit)) 0 r ⌝ }
+{
+    let mut form = [0u8; 192];
+    let checked = names::to_ascii_with(kanji, text, &mut form);
+    let number = checked.number as usize;
+    let class = checked.class;
+    if number == 0 {
+        let length = checked.length;
+        return put_line(id, number, checked.place, class, &form[0..length], out);
+    }
+    let none = [HYPHEN];
+    put_line(id, number, checked.place, class, &none, out)
+}
+
+// A name is lent up to 257 code points: with more than 256 the rules look no further.
+fn lent(count: usize) -> usize
+    ensures { λ r. ⌜ r ≡ min count 257 ⌝ }
+{
+    if count < 257 { count } else { 257 }
+}
+
+// Puts the answer to a line with these two fields.
+fn put_fields(kanji: &[u32], id: &[u8], name: &[u8], out: &mut [u8]) -> usize
+    requires { ⌜ 256 ≤ length (now out) ⌝ }
+    ensures { λ r. ⌜ PutsAt (fieldsAnswer (todayWith (now (kanji .entry))) (now (id .entry)) (now (name .entry))) (now (out .entry)) (now (out .exit)) 0 r ⌝ }
+{
+    if !is_id(id) {
+        return put_bad(out);
+    }
+    let mut text = [0u32; 257];
+    let decoded = decode(name, &mut text);
+    if !decoded.ok {
+        return put_bad(out);
+    }
+    let n = lent(decoded.count);
+    put_text(kanji, id, &text[0..n], out)
+}
+
+// Puts the answer to a line.
+fn put_answer(kanji: &[u32], line: &[u8], out: &mut [u8]) -> usize
+    requires { ⌜ 256 ≤ length (now out) ⌝ }
+    ensures { λ r. ⌜ PutsAt (answerTo (todayWith (now (kanji .entry))) (now (line .entry))) (now (out .entry)) (now (out .exit)) 0 r ⌝ }
+{
+    if 1024 < line.len() {
+        return put_bad(out);
+    }
+    let parts = split(line);
+    match parts {
+        Parts::Two(tab) => {
+            let start = tab + 1;
+            let end = line.len();
+            put_fields(kanji, &line[0..tab], &line[start..end], out)
+        }
+        Parts::Other => put_bad(out),
+    }
+}
+
+// The answer to a line, at the start of out. The table of kanji is lent.
+pub fn answer(kanji: &[u32], line: &[u8], out: &mut [u8]) -> Wrote
+    ensures { λ r. ⌜ AnswersLine (todayWith (now (kanji .entry))) (now (line .entry)) (now (out .entry)) (now (out .exit)) r ⌝ }
+{
+    if out.len() < MOST {
+        return Wrote {
+            done: false,
+            length: 0,
+        };
+    }
+    Wrote {
+        done: true,
+        length: put_answer(kanji, line, out),
+    }
+}

@@ -1,0 +1,108 @@
+// The fields of a line, an id and a name with one tab between them, by a line reader that holds the lent line and the place reached.
+ghost use mathlib.Core.Path.{_≡_};
+ghost use Rattle.batch.specs.Answer.{idByte, goodId};
+ghost use Rattle.batch.specs.Fields.{fieldAt, partsOf};
+
+const TAB: u8 = 0x09;
+
+pub struct LineReader<'a> {
+    pub line: &'a [u8],
+    pub at: usize,
+}
+
+// A field: from start up to end.
+pub struct Stretch {
+    pub start: usize,
+    pub end: usize,
+}
+
+// Of a line with exactly one tab, where it is: the id stands before it, the name past it.
+pub enum Parts {
+    Two(usize),
+    Other,
+}
+
+// The work: the stretch from `at` up to a tab or the end.
+pub fn field_at(s: &[u8], at: usize) -> Stretch
+    ensures { λ r. ⌜ r ≡ fieldAt (now (s .entry)) at ⌝ }
+{
+    let mut i = at;
+    while i < s.len() {
+        if s[i] == TAB {
+            return Stretch { start: at, end: i };
+        }
+        i += 1;
+    }
+    Stretch { start: at, end: i }
+}
+
+pub fn new<'a>(line: &'a [u8]) -> LineReader<'a>
+    ensures { λ r. ⌜ (r .line ≡ line .entry) × (r .at ≡ 0) ⌝ }
+{
+    LineReader { line, at: 0 }
+}
+
+pub fn moved<'a>(r: LineReader<'a>, at: usize) -> LineReader<'a>
+    ensures { λ q. ⌜ (q .line ≡ r .entry .line) × (q .at ≡ at) ⌝ }
+{
+    LineReader { line: r.line, at }
+}
+
+pub fn field<'a>(r: LineReader<'a>) -> Stretch
+    ensures { λ f. ⌜ f ≡ fieldAt (now (r .entry .line)) (r .entry .at) ⌝ }
+{
+    field_at(r.line, r.at)
+}
+
+// The field of a line from a place on, by a reader.
+pub fn field_from(line: &[u8], at: usize) -> Stretch
+    ensures { λ r. ⌜ r ≡ fieldAt (now (line .entry)) at ⌝ }
+{
+    field(moved(new(line), at))
+}
+
+// The two fields of a line with exactly one tab.
+pub fn split(line: &[u8]) -> Parts
+    ensures { λ r. ⌜ r ≡ partsOf (now (line .entry)) ⌝ }
+{
+    let id = field_from(line, 0);
+    let tab = id.end;
+    if line.len() <= tab {
+        return Parts::Other;
+    }
+    let name = field_from(line, tab + 1);
+    if name.end < line.len() {
+        return Parts::Other;
+    }
+    Parts::Two(tab)
+}
+
+// An ASCII letter, digit or hyphen.
+fn is_id_byte(b: u8) -> bool
+    ensures { λ r. ⌜ r ≡ idByte b ⌝ }
+{
+    match b {
+        0x41..=0x5A | 0x61..=0x7A | 0x30..=0x39 | 0x2D => true,
+        _ => false,
+    }
+}
+
+// Is it 1 to 32 ASCII letters, digits or hyphens?
+pub fn is_id(id: &[u8]) -> bool
+    ensures { λ r. ⌜ r ≡ goodId (now (id .entry)) ⌝ }
+{
+    if id.len() == 0 {
+        return false;
+    }
+    if 32 < id.len() {
+        return false;
+    }
+    let mut i = 0;
+    while i < id.len() {
+        if !is_id_byte(id[i]) {
+            return false;
+        }
+        i += 1;
+    }
+    true
+}

@@ -1,0 +1,175 @@
+// A batch that arrives in pieces which know nothing of lines: each piece is fed, and then the end is told. What is carried from
+// piece to piece is the line whose end has not come. Their meaning is defined in specs/: Stream, Feed.
+ghost use mathlib.Core.Path.{_≡_};
+ghost use Prim.Native.Nat.{_+_};
+ghost use lib.ListN.{drop};
+ghost use Rattle.lists.specs.Tests.{firstOf};
+ghost use Rattle.rules.specs.Editions.{todayWith};
+ghost use Rattle.batch.specs.Answer.{answerTo, badAnswer};
+ghost use Rattle.batch.specs.Stream.{lf, fresh, pushedAll, closed};
+ghost use Rattle.batch.specs.Feed.{Writes, Scans, Feeds, Finishes};
+use crate::answer::Wrote;
+use crate::answer::answer;
+
+// A line of more bytes is refused.
+const LINE: usize = 1024;
+
+// No answer is longer.
+const MOST: usize = 256;
+
+// The bytes of a line whose end has not come, and how many; over 1,024 says that there were more.
+pub struct Line {
+    pub held: [u8; 1024],
+    pub n: usize,
+}
+
+// How much of a piece is used, how many bytes are written for it, and the line that is carried on.
+pub struct Fed {
+    pub used: usize,
+    pub wrote: usize,
+    pub line: Line,
+}
+
+// Whether there was room, and how many bytes are written.
+pub struct Finished {
+    pub done: bool,
+    pub wrote: usize,
+}
+
+// Where the whole lines end, and how many bytes their answers have.
+pub struct Scanned {
+    pub at: usize,
+    pub length: usize,
+}
+
+// Before the first piece nothing is carried.
+pub fn new() -> Line
+    ensures { λ r. ⌜ r ≡ fresh ⌝ }
+{
+    Line {
+        held: [0u8; 1024],
+        n: 0,
+    }
+}
+
+// The index of the first LF from `from` on, or the length.
+fn find_lf(s: &[u8], from: usize) -> usize
+    ensures { λ r. ⌜ r ≡ from + firstOf lf (drop from (now (s .entry))) ⌝ }
+{
+    let mut i = from;
+    while i < s.len() {
+        if s[i] == b'\n' {
+            return i;
+        }
+        i += 1;
+    }
+    i
+}
+
+// The carried line with the bytes of s after it.
+fn carried(line: Line, s: &[u8]) -> Line
+    ensures { λ r. ⌜ r ≡ pushedAll line (now (s .entry)) ⌝ }
+{
+    let mut held = line.held;
+    let mut n = line.n;
+    let mut i = 0;
+    while i < s.len() {
+        let b = s[i];
+        i += 1;
+        if n < LINE {
+            held[n] = b;
+            n += 1;
+        } else {
+            n = LINE + 1;
+        }
+    }
+    Line { held: held, n: n }
+}
+
+// The answer to a carried line. All lines that are too long have one answer, so any of them may be asked.
+fn close(kanji: &[u32], line: Line, out: &mut [u8]) -> Wrote
+    ensures { λ r. ⌜ Writes (closed (answerTo (todayWith (now (kanji .entry)))) badAnswer line) (now (out .entry)) (now (out .exit)) r ⌝ }
+{
+    let n = line.n;
+    if n <= LINE {
+        let whole: &[u8] = &line.held;
+        return answer(kanji, &whole[0..n], out);
+    }
+    let long = [0u8; 1025];
+    answer(kanji, &long, out)
+}
+
+// Answers the lines that end in s, straight from it, while there is room.
+fn scan(kanji: &[u32], s: &[u8], out: &mut [u8]) -> Scanned
+    ensures { λ r. ⌜ Scans (answerTo (todayWith (now (kanji .entry)))) badAnswer (now (s .entry)) (now (out .entry)) (now (out .exit)) r ⌝ }
+{
+    let mut at = 0;
+    let mut o = 0;
+    while MOST <= out.len() - o {
+        let e = find_lf(s, at);
+        if s.len() <= e {
+            return Scanned { at: at, length: o };
+        }
+        let w = answer(kanji, &s[at..e], &mut out[o..]);
+        o += w.length;
+        at = e + 1;
+    }
+    Scanned { at: at, length: o }
+}
+
+// Feeds a piece: answers each line that ends in it, while there is room, and carries on the rest. What it does not use is fed again.
+pub fn feed(kanji: &[u32], line: Line, chunk: &[u8], out: &mut [u8]) -> Fed
+    ensures { λ r. ⌜ Feeds (answerTo (todayWith (now (kanji .entry)))) badAnswer line (now (chunk .entry)) (now (out .entry)) (now (out .exit)) r ⌝ }
+{
+    if out.len() < MOST {
+        return Fed {
+            used: 0,
+            wrote: 0,
+            line: line,
+        };
+    }
+    let e = find_lf(chunk, 0);
+    if chunk.len() <= e {
+        return Fed {
+            used: chunk.len(),
+            wrote: 0,
+            line: carried(line, chunk),
+        };
+    }
+    let first = carried(line, &chunk[0..e]);
+    let w = close(kanji, first, out);
+    let n = w.length;
+    let s = e + 1;
+    let t = scan(kanji, &chunk[s..], &mut out[n..]);
+    let at = s + t.at;
+    let o = n + t.length;
+    if out.len() - o < MOST {
+        return Fed {
+            used: at,
+            wrote: o,
+            line: new(),
+        };
+    }
+    Fed {
+        used: chunk.len(),
+        wrote: o,
+        line: carried(new(), &chunk[at..]),
+    }
+}
+
+// The end of the input: the answer to a last line that no LF ended. Where there is no room it is not done, and nothing is written.
+pub fn finish(kanji: &[u32], line: Line, out: &mut [u8]) -> Finished
+    ensures { λ r. ⌜ Finishes (answerTo (todayWith (now (kanji .entry)))) badAnswer line (now (out .entry)) (now (out .exit)) r ⌝ }
+{
+    if line.n == 0 {
+        return Finished {
+            done: MOST <= out.len(),
+            wrote: 0,
+        };
+    }
+    let w = close(kanji, line, out);
+    Finished {
+        done: w.done,
+        wrote: w.length,
+    }
+}
