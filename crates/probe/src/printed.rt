@@ -1,0 +1,106 @@
+// The output. Bytes are gathered in a buffer, which is written whenever it is full, so that no answer is too long for it. Each function
+// takes the place of the next byte, which may be any number, and answers the place after its own bytes, which lies in the buffer.
+ghost use Prim.Native.Nat.{_≤_};
+ghost use lib.ListN.{length};
+
+// Writes what is gathered.
+pub(crate) fn flush(out: &[u8], o: usize) {
+    if o <= out.len() {
+        io::write_all(1, &out[0..o]);
+    }
+}
+
+// A byte.
+pub(crate) fn put_byte(out: &mut [u8], o: usize, b: u8) -> usize
+    ensures { λ r. ⌜ r ≤ length (now (out .entry)) ⌝ }
+{
+    if o < out.len() {
+        out[o] = b;
+        return o + 1;
+    }
+    flush(out, o);
+    if 0 < out.len() {
+        out[0] = b;
+        return 1;
+    }
+    0
+}
+
+// The bytes of s.
+fn put_bytes(out: &mut [u8], from: usize, s: &[u8]) -> usize {
+    let mut o = from;
+    let mut i: usize = 0;
+    while i < s.len() {
+        o = put_byte(out, o, s[i]);
+        i += 1;
+    }
+    o
+}
+
+// x in decimal.
+fn put_decimal(out: &mut [u8], o: usize, x: u64) -> usize {
+    let mut digits = [0u8; 20];
+    let k = io::decimal(x, &mut digits);
+    put_bytes(out, o, &digits[..k])
+}
+
+// x in hexadecimal.
+pub(crate) fn put_hex(out: &mut [u8], o: usize, x: u32) -> usize {
+    let mut digits = [0u8; 16];
+    let k = io::hex(x as u64, 1, &mut digits);
+    put_bytes(out, o, &digits[..k])
+}
+
+// An octet in hexadecimal.
+pub(crate) fn put_octet(out: &mut [u8], o: usize, b: u8) -> usize {
+    put_hex(out, o, b as u32)
+}
+
+// The answer's number and its place.
+fn put_number(out: &mut [u8], from: usize, number: u8, place: usize) -> usize {
+    let mut o = put_decimal(out, from, number as u64);
+    o = put_byte(out, o, b' ');
+    put_decimal(out, o, place as u64)
+}
+
+// A space and the class.
+fn put_class(out: &mut [u8], from: usize, class: rules::Class) -> usize {
+    let o = put_byte(out, from, b' ');
+    match class {
+        rules::Class::None => put_byte(out, o, b'-'),
+        rules::Class::General => put_byte(out, o, b'G'),
+        rules::Class::Prefecture => put_byte(out, o, b'P'),
+    }
+}
+
+// A space and the length.
+fn put_length(out: &mut [u8], from: usize, length: usize) -> usize {
+    let o = put_byte(out, from, b' ');
+    put_decimal(out, o, length as u64)
+}
+
+// An answer with no class.
+pub(crate) fn put_plain(
+    out: &mut [u8],
+    from: usize,
+    number: u8,
+    place: usize,
+    length: usize,
+) -> usize {
+    let o = put_number(out, from, number, place);
+    put_length(out, o, length)
+}
+
+// An answer with a class.
+pub(crate) fn put_classed(
+    out: &mut [u8],
+    from: usize,
+    number: u8,
+    place: usize,
+    class: rules::Class,
+    length: usize,
+) -> usize {
+    let mut o = put_number(out, from, number, place);
+    o = put_class(out, o, class);
+    put_length(out, o, length)
+}

@@ -1,0 +1,129 @@
+// The calls that take their input bit by bit: the live check and the batch.
+ghost use Prim.Native.Nat.{_≤_, _<_};
+ghost use lib.ListN.{length};
+use crate::printed;
+
+// How many bytes of a batch are fed at once: fewer than a line has, so that lines are carried from piece to piece.
+const PIECE: usize = 7;
+
+// The state that the code points lead to, from the fresh one.
+fn typed(text: &[u32]) -> live::Live {
+    let mut state = live::Live::fresh();
+    let mut i: usize = 0;
+    while i < text.len() {
+        state = state.step(text[i]);
+        i += 1;
+    }
+    state
+}
+
+// How many entries there are up to the last one that is not zero.
+fn shown(form: &[u32]) -> usize
+    ensures { λ r. ⌜ r ≤ length (now (form .entry)) ⌝ }
+{
+    let mut n = form.len();
+    while 0 < n {
+        let i = n - 1;
+        if form[i] != 0 {
+            return n;
+        }
+        n = i;
+    }
+    0
+}
+
+// The entries of the array that a look shows, each after a space.
+fn put_shown(out: &mut [u8], from: usize, form: &[u32]) -> usize {
+    let n = shown(form);
+    let mut o = from;
+    let mut i: usize = 0;
+    while i < n {
+        o = printed::put_byte(out, o, b' ');
+        o = printed::put_hex(out, o, form[i]);
+        i += 1;
+    }
+    o
+}
+
+// L: the live check, looked at after the last code point.
+pub(crate) fn live_check(kanji: &[u32], text: &[u32], out: &mut [u8], from: usize) -> usize {
+    let state = typed(text);
+    let j = state.look_with(kanji);
+    let class = j.class;
+    let form = j.form;
+    let o = printed::put_classed(out, from, j.number, j.place, class, j.length);
+    put_shown(out, o, &form)
+}
+
+// An octet, with a space before it unless it is the first.
+fn put_next(out: &mut [u8], from: usize, b: u8, first: bool) -> usize {
+    if first {
+        return printed::put_octet(out, from, b);
+    }
+    let o = printed::put_byte(out, from, b' ');
+    printed::put_octet(out, o, b)
+}
+
+// The first n octets of what a batch was lent, with a space between one and the next; `first` says that none came before.
+fn put_reply(out: &mut [u8], from: usize, reply: &[u8], n: usize, first: bool) -> usize {
+    let mut o = from;
+    let mut i: usize = 0;
+    while i < reply.len() {
+        if n <= i {
+            return o;
+        }
+        o = put_next(out, o, reply[i], first && i == 0);
+        i += 1;
+    }
+    o
+}
+
+// The end of the piece that begins at `at`.
+fn piece_end(octets: &[u8], at: usize) -> usize
+    requires { ⌜ at < length (now octets) ⌝ }
+    ensures { λ r. ⌜ (at < r) × (r ≤ length (now (octets .entry))) ⌝ }
+{
+    if octets.len() - at < PIECE {
+        return octets.len();
+    }
+    at + PIECE
+}
+
+// Where the next piece begins: what a feed left of its piece is fed again. That it used some of the piece and no more is its own
+// statement; here it is tested, which is shorter than citing it, and the batch would end where it failed.
+fn piece_next(octets: &[u8], at: usize, e: usize, used: usize) -> usize
+    requires { ⌜ (at < e) × (e ≤ length (now octets)) ⌝ }
+    ensures { λ r. ⌜ (at < r) × (r ≤ length (now (octets .entry))) ⌝ }
+{
+    if used == 0 {
+        return octets.len();
+    }
+    if e - at < used {
+        return octets.len();
+    }
+    at + used
+}
+
+// B: the batch, fed in pieces, each with all of `reply` for its answers.
+pub(crate) fn whole_batch(
+    kanji: &[u32],
+    octets: &[u8],
+    reply: &mut [u8],
+    out: &mut [u8],
+    from: usize,
+) -> usize {
+    let mut line = batch::stream::new();
+    let mut o = from;
+    let mut first = true;
+    let mut at: usize = 0;
+    while at < octets.len() {
+        let e = piece_end(octets, at);
+        let f = batch::stream::feed(kanji, line, &octets[at..e], reply);
+        o = put_reply(out, o, reply, f.wrote, first);
+        first = first && f.wrote == 0;
+        at = piece_next(octets, at, e, f.used);
+        line = f.line;
+    }
+    let f = batch::stream::finish(kanji, line, reply);
+    put_reply(out, o, reply, f.wrote, first)
+}
