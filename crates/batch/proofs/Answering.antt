@@ -25,7 +25,6 @@ use Rattle.rules.specs.declared.Verdict.{Verdict}
 use Rattle.names.specs.Calls.{checked, Answers, asciiForm, asciiRows}
 use Rattle.names.specs.declared.Checked.{Checked}
 use Rattle.batch.specs.declared.fields.Parts.the-variants.{Two, Other}
-use Rattle.batch.specs.declared.answer.Wrote.{Wrote}
 use Rattle.batch.specs.Utf8.{decoded}
 use Rattle.batch.specs.Answer.{tab, idOf, nameOf, oneTab, goodId, badLine, answerLine, badAnswer, goodAnswer, answerTo}
 use Rattle.batch.specs.Fields.{partsOf}
@@ -184,10 +183,3 @@ module _ (P : Permits) (line before : List ℕ) where
   in-room after r h x =
       let e = le-leb 256 (length before) h in
       record { done = sym e; buffer = rw e (puts-written x); length = rw e (puts-length x) }
-
--- two results that satisfy the contract are the same
-pub answers-once : (P : Permits) (line before a b : List ℕ) (r s : Wrote) → AnswersLine P line before a r → AnswersLine P line before b s → (r ≡ s) × (a ≡ b)
-answers-once P line before a b r s x y =
-    let d : r .done ≡ s .done = x .done ∙ sym (y .done) in
-    let l : r .length ≡ s .length = x .length ∙ sym (y .length) in
-    (λ i. record { done = d i; length = l i }, x .buffer ∙ sym (y .buffer))

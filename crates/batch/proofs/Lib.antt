@@ -3,6 +3,7 @@ mod Decoding
 mod LineFields
 pub mod OneTab
 mod Pieces
+pub mod Digits
 mod Answering
 pub mod Whole
 mod Asked
@@ -13,4 +14,4 @@ mod Feeding
 pub mod Laws
 pub mod Neighbours
 pub mod Longest
-pub mod Digits
+pub mod Unique

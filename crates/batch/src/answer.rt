@@ -1,5 +1,6 @@
 // The answer to a line: id, number, place, class and ASCII form, tab-parted and ended by LF.
 use crate::fields::Parts;
+use crate::fields::TAB;
 use crate::fields::is_id;
 use crate::fields::split;
 use crate::utf8::decode;
@@ -11,8 +12,6 @@ ghost use lib.ListN.{length};
 ghost use Rattle.rules.specs.Editions.{todayWith};
 ghost use Rattle.batch.specs.Answer.{decimal, letter, answerLine, badAnswer, goodAnswer, answerTo};
 ghost use Rattle.batch.specs.Answers.{AnswersLine, PutsAt, frontOf, fieldsAnswer};
-
-const TAB: u8 = 0x09;
 
 const LF: u8 = 0x0A;
 

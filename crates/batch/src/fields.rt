@@ -3,7 +3,7 @@ ghost use mathlib.Core.Path.{_≡_};
 ghost use Rattle.batch.specs.Answer.{idByte, goodId};
 ghost use Rattle.batch.specs.Fields.{fieldAt, partsOf};
 
-const TAB: u8 = 0x09;
+pub const TAB: u8 = 0x09;
 
 pub struct LineReader<'a> {
     pub line: &'a [u8],

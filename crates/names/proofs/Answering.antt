@@ -2,7 +2,7 @@
 -- judge's array, and a refused one leaves the buffer.
 -- Assumes nothing.
 use mathlib.Core.Path.{_≡_, refl, sym, ap, _∙_}
-use mathlib.Core.Bool.{Bool, true, false}
+use mathlib.Core.Bool.{true, false}
 use mathlib.Core.List.{List, [], _∷_, _++_}
 use Prim.Native.Nat.{ℕ, _-_, _≤_, _<_}
 use native.Mathlib.Omega.{arith}
@@ -12,9 +12,9 @@ use lib.Seq.{take-all}
 use borrow.Author.Tests.{ne-eqb, lt-ltb, le-ltb, ltb-false}
 use Rattle.lists.specs.Tests.{allOf, anyOf}
 use Rattle.lists.specs.Front.{written}
-use Rattle.lists.specs.Rows.{Row, row, Answer, first, given}
+use Rattle.lists.specs.Rows.{Row, row, first, given}
 use Rattle.lists.proofs.Fronts.{untouched}
-use Rattle.lists.proofs.Tables.{Clear, clear, clear-before, hit, passed-over, refusing, accepted-clear, given-all, given-none}
+use Rattle.lists.proofs.Tables.{Clear, clear, clear-before, hit, passed-over, refusing, accepted-clear, given-none}
 use Rattle.normal.specs.Normal.{normalForm}
 use Rattle.normal.proofs.Laws.{no-longer}
 use Rattle.rules.specs.Labels.{labels}
@@ -22,7 +22,7 @@ use Rattle.rules.specs.Permits.{Permits}
 use Rattle.rules.specs.Rules.{labelRows, nameRows, textRows, classOf, verdict, rules}
 use Rattle.rules.specs.declared.Class.{Class}
 use Rattle.rules.proofs.Steps.{refused-before}
-use Rattle.names.specs.Calls.{shown, padded, judged, checked, Answers, checkRows, Checks, uncoded, asciiForm, asciiRows, AsciiForms}
+use Rattle.names.specs.Calls.{judged, checked, Answers, checkRows, Checks, uncoded, asciiForm, asciiRows, AsciiForms}
 use Rattle.names.specs.Steps.{refusedCall}
 use Rattle.names.specs.declared.Judged.{Judged}
 use Rattle.names.specs.declared.Checked.{Checked}
@@ -45,6 +45,10 @@ module _ (rows : List Row) (text xs before : List ℕ) where
 
 -- ---- an accepted name
 
+pub cleared : (P : Permits) (text : List ℕ) → first (textRows P text) .number ≡ 0 → Clear (textRows P text)
+unfolding refusing allOf textRows nameRows labelRows
+cleared P text e = accepted-clear (textRows P text) refl e
+
 pub record Passed (P : Permits) (text : List ℕ) (j : Judged) : Type 0 where
   pub clear : Clear (textRows P text)
   pub class : j .class ≡ classOf (labels (normalForm text))
@@ -65,9 +69,9 @@ module _ (P : Permits) (text : List ℕ) {j : Judged} (e : j ≡ judged P text) 
   answer-is = rw (number-is, place-is)
 
   pub passed : j .number ≡ 0 → Passed P text j
-  unfolding judged rules verdict refusing allOf textRows nameRows labelRows
+  unfolding judged rules verdict textRows
   passed z =
-      let all = accepted-clear (textRows P text) refl (sym number-is ∙ z) in
+      let all = cleared P text (sym number-is ∙ z) in
       let few : length text ≤ 256 = ltb-false 256 (length text) (all .1 .0) in
       let shows = shown-whole text few in
       let size : j .length ≡ length (normalForm text) = ap (λ (x : Judged). x .length) e ∙ ap length shows in

@@ -4,34 +4,61 @@
 use mathlib.Core.Path.{_≡_, refl, sym, ap, _∙_}
 use mathlib.Core.Bool.{Bool, true, false, not, _&&_, _||_}
 use mathlib.Core.List.{List, [], _∷_, _++_}
-use Prim.Native.Nat.{ℕ, _+_, _-_, _*_, _≤_}
+use Prim.Native.Nat.{ℕ, _+_, _-_, _≤_}
 use native.Mathlib.Omega.{arith}
-use lib.Dec.{eqb, leb, ltb}
+use lib.Dec.{leb}
 use lib.ListN.{length, take, drop, length-append}
 use lib.Seq.{take-at, take-all}
 use borrow.Author.Tests.{ne-eqb, le-leb, lt-ltb, ltb-false, not-true, not-false}
-use Rattle.lists.specs.Tests.{pick, allOf, anyOf, same}
+use Rattle.lists.specs.Tests.{allOf, anyOf, same}
 use Rattle.lists.specs.Front.{written}
-use Rattle.lists.proofs.Laws.{both, clash, same-is}
+use Rattle.lists.proofs.Laws.{both, or-right, clash, same-is}
 use Rattle.lists.proofs.Tables.{Clear}
-use Rattle.characters.specs.Characters.{asciiSet}
 use Rattle.normal.specs.Normal.{normalForm}
 use Rattle.rules.specs.Labels.{labels}
 use Rattle.rules.specs.Permits.{Permits, labelChar}
 use Rattle.rules.specs.Rules.{isJapanese, long, jp, labelRows, nameRows, textRows}
 use Rattle.rules.specs.Editions.{isPrefecture, today, todayWith}
-use Rattle.rules.proofs.Views.{all-but}
+use Rattle.rules.proofs.Views.{and-false, all-but}
 use Rattle.rules.proofs.Cuts.{labels-fit}
 use Rattle.rules.proofs.Sound.{ascii-range}
 use Rattle.rules.proofs.Today.{today-laws}
 use Rattle.names.specs.Calls.{judged, asciiForm, uncoded, AsciiForms}
-use Rattle.names.specs.Steps.{octet, writable, Writable, Puts, Tries, refusedCall}
+use Rattle.names.specs.Steps.{octet, writable, Writable, Tries, refusedCall}
 use Rattle.names.specs.declared.Judged.{Judged}
 use Rattle.names.specs.declared.Checked.{Checked}
 use Rattle.names.specs.declared.ascii.Put.{Put}
 use Rattle.names.proofs.Answering.{passed, ascii-uncoded, ascii-accepted}
 
--- ---- a label
+-- ---- a law of each label of an accepted name
+
+module _ (P : Permits) (f : List ℕ → Bool) (left : (l : List ℕ) → allOf (labelChar P) l ≡ true → long P l ≡ false → f l ≡ true)
+    (middle : (l : List ℕ) → allOf (labelChar P) l ≡ true → P .middle l ≡ true → f l ≡ true) (last : f jp ≡ true) where
+  jp-last : (l : List ℕ) → not (same l jp) ≡ false → f l ≡ true
+  jp-last l e = ap f (same-is l jp (not-false (same l jp) e)) ∙ last
+
+  by-number : (ls : List (List ℕ)) → Clear (nameRows P ls) → allOf (allOf (labelChar P)) ls ≡ true → (allOf f ls ≡ true) × (length ls ≤ 3)
+  unfolding nameRows labelRows allOf
+  by-number [] c a = (refl, omega arith)
+  by-number (l ∷ []) c a = clash refl (rw (and-false (P .three)) at (c .0))
+  by-number (l ∷ m ∷ []) c a =
+      let p = both (allOf (labelChar P) l) _ a in
+      (rw (left l (p .0) (c .1 .1 .1 .1 .0), jp-last m (c .1 .1 .1 .1 .1 .1 .0)), omega arith)
+  by-number (l ∷ m ∷ n ∷ []) c a =
+      let p = both (allOf (labelChar P) l) _ a in
+      let q = both (allOf (labelChar P) m) _ (p .1) in (
+        rw (left l (p .0) (c .1 .1 .1 .1 .0), middle m (q .0) (not-false (P .middle m) (c .1 .1 .1 .1 .1 .1 .1 .0)), jp-last n (c .1 .1 .1 .1 .1 .1 .0)),
+        omega arith,
+      )
+  by-number (l ∷ m ∷ n ∷ o ∷ ls) c a =
+      let k = length (l ∷ m ∷ n ∷ o ∷ ls) in
+      clash refl (rw (ne-eqb k 2 (λ e. omega arith), ne-eqb k 3 (λ e. omega arith), and-false (P .three)) at (c .0))
+
+  pub each-label : (text : List ℕ) → Clear (textRows P text) → (allOf f (labels (normalForm text)) ≡ true) × (length (labels (normalForm text)) ≤ 3)
+  unfolding textRows
+  each-label text c = by-number (labels (normalForm text)) (c .1 .1 .1) (labels-fit P (normalForm text) (c .1 .1 .0))
+
+-- ---- of at most 63 characters where it is not coded
 
 label-writable : (P : Permits) (l : List ℕ) → allOf (labelChar P) l ≡ true → (isJapanese P l ≡ false → length l ≤ 63) → writable P l ≡ true
 unfolding writable isJapanese labelChar octet
@@ -48,50 +75,24 @@ left-size : (P : Permits) (l : List ℕ) → long P l ≡ false → isJapanese P
 unfolding long
 left-size P l e p = ltb-false 63 (length l) (rw p at e)
 
-middle-size : (l : List ℕ) → isPrefecture l ≡ true → length l ≤ 63
+-- a prefecture label has at most 60 characters in every edition that has these labels
+pub middle-size : (l : List ℕ) → isPrefecture l ≡ true → length l ≤ 60
 unfolding today
-middle-size l e = let h : length l ≤ 60 = today-laws .middle-short l e in omega arith
+middle-size l e = today-laws .middle-short l e
 
-last-size : (l : List ℕ) → not (same l jp) ≡ false → length l ≤ 63
-unfolding jp
-last-size l e = omega (arith, ap length (same-is l (0x6A ∷ 0x70 ∷ []) (not-false (same l (0x6A ∷ 0x70 ∷ [])) e)))
+jp-writable : (P : Permits) → writable P jp ≡ true
+unfolding writable jp allOf octet
+jp-writable P = or-right (isJapanese P (0x6A ∷ 0x70 ∷ [])) true refl
 
--- ---- a name
-
-module _ (table : List ℕ) where
-  abbrev edition : Permits
-  edition = todayWith table
-
-  three-labels : (ls : List (List ℕ)) → Clear (nameRows edition ls) → allOf (allOf (labelChar edition)) ls ≡ true
-      → (allOf (writable edition) ls ≡ true) × (length ls ≤ 3)
-  unfolding nameRows labelRows allOf todayWith
-  three-labels [] c a = (refl, omega arith)
-  three-labels (l ∷ []) c a = clash refl (c .0)
-  three-labels (l ∷ m ∷ []) c a =
-      let p = both (allOf (labelChar edition) l) _ a in
-      let q = both (allOf (labelChar edition) m) _ (p .1) in
-      let wl = label-writable edition l (p .0) (left-size edition l (c .1 .1 .1 .1 .0)) in
-      let wm = label-writable edition m (q .0) (λ z. last-size m (c .1 .1 .1 .1 .1 .1 .0)) in
-      (rw (wl, wm), omega arith)
-  three-labels (l ∷ m ∷ n ∷ []) c a =
-      let p = both (allOf (labelChar edition) l) _ a in
-      let q = both (allOf (labelChar edition) m) _ (p .1) in
-      let r = both (allOf (labelChar edition) n) _ (q .1) in
-      let wl = label-writable edition l (p .0) (left-size edition l (c .1 .1 .1 .1 .0)) in
-      let wm = label-writable edition m (q .0) (λ z. middle-size m (not-false (isPrefecture m) (c .1 .1 .1 .1 .1 .1 .1 .0))) in
-      let wn = label-writable edition n (r .0) (λ z. last-size n (c .1 .1 .1 .1 .1 .1 .0)) in
-      (rw (wl, wm, wn), omega arith)
-  three-labels (l ∷ m ∷ n ∷ o ∷ ls) c a =
-      let k = length (l ∷ m ∷ n ∷ o ∷ ls) in
-      clash refl (rw (ne-eqb k 2 (λ e. omega arith), ne-eqb k 3 (λ e. omega arith)) at (c .0))
-
-  pub ready : (text : List ℕ) {j : Judged} → j ≡ judged edition text → j .number ≡ 0 → Writable edition (take (j .length - 0) (drop 0 (j .form))) 192
-  unfolding textRows
-  ready text e z =
-      let p = passed edition text e z in
-      let c = p .clear in
-      let w = three-labels (labels (normalForm text)) (c .1 .1 .1) (labels-fit edition (normalForm text) (c .1 .1 .0)) in
-      rw (p .form) (record { fit = w .0; few = omega (arith, w .1) })
+pub ready : (table text : List ℕ) {j : Judged} → j ≡ judged (todayWith table) text → j .number ≡ 0
+    → Writable (todayWith table) (take (j .length - 0) (drop 0 (j .form))) 192
+unfolding todayWith
+ready table text e z =
+    let P = todayWith table in
+    let p = passed P text e z in
+    let w = each-label P (writable P) (λ l a k. label-writable P l a (left-size P l k))
+    (λ l a m. label-writable P l a (λ q. let h = middle-size l m in omega arith)) (jp-writable P) text (p .clear) in
+    rw (p .form) (record { fit = w .0; few = omega (arith, w .1) })
 
 -- ---- what is put is the form
 

@@ -2,20 +2,19 @@
 -- to put is the whole. An accepted name has two or three labels of at most 63 octets each, so that 192 are enough.
 -- Assumes nothing.
 use mathlib.Core.Path.{_≡_, refl, sym, ap, _∙_}
-use mathlib.Core.Bool.{Bool, true, false, not, _&&_, _||_}
+use mathlib.Core.Bool.{Bool, true, false, not, _&&_}
 use mathlib.Core.List.{List, [], _∷_, _++_, map, append-assoc, append-nil}
 use mathlib.Core.Logic.{⊎-elim}
 use Prim.Native.Nat.{ℕ, zero, suc, _+_, _-_, _*_, _≤_, _<_}
 use native.Mathlib.Numerals.{add-one}
 use native.Mathlib.Omega.{arith}
 use lib.Dec.{eqb, leb, ltb}
-use lib.ListN.{length, take, drop, getD, set, length-append, length-drop, length-take, drop-of-length-le}
-use lib.Seq.{paste, paste-suc, take-all, take-at, drop-at, drop-drop, set-split, append-snoc, length-take-le}
-use borrow.Author.Tests.{eq-eqb, ne-eqb, le-ltb, leb-true, le-leb, ltb-true, lt-ltb, eqb-true, not-true, not-false}
+use lib.ListN.{length, take, drop, getD, set, length-append, length-drop, drop-of-length-le}
+use lib.Seq.{paste, paste-suc, take-all, take-at, drop-at, drop-drop, set-split}
+use borrow.Author.Tests.{eq-eqb, ne-eqb, le-ltb, leb-true, ltb-true, eqb-true, not-true, not-false}
 use Rattle.lists.specs.Tests.{pick, allOf, anyOf, firstOf}
 use Rattle.lists.specs.Front.{written}
 use Rattle.lists.proofs.Laws.{both, clash, lt-or-le}
-use Rattle.lists.proofs.Fronts.{front}
 use Rattle.punycode.specs.Punycode.{ace, encodable}
 use Rattle.punycode.specs.Calls.{coderNumber, coderWrites, Encodes}
 use Rattle.punycode.specs.declared.Coded.{Coded}

@@ -7,3 +7,4 @@ pub mod Answering
 pub mod Joining
 pub mod Enough
 pub mod Unique
+pub mod Coded

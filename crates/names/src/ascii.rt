@@ -11,7 +11,7 @@ ghost use Prim.Native.Nat.{_+_, _≤_};
 ghost use lib.Dec.{eqb};
 ghost use lib.ListN.{length};
 ghost use Rattle.lists.specs.Tests.{allOf, anyOf};
-ghost use Rattle.rules.specs.Editions.{todayWith};
+ghost use Rattle.rules.specs.Editions.{today, todayWith};
 ghost use Rattle.punycode.specs.Punycode.{ace};
 ghost use Rattle.punycode.specs.Calls.{coderNumber};
 ghost use Rattle.rules.specs.Labels.{labels};
@@ -117,4 +117,12 @@ pub fn to_ascii_with(kanji: &[u32], text: &[u32], out: &mut [u8]) -> Checked
         class,
         length,
     }
+}
+
+// The same by the kanji of this edition.
+pub fn to_ascii(text: &[u32], out: &mut [u8]) -> Checked
+    ensures { λ r. ⌜ AsciiForms today (now (text .entry)) (now (out .entry)) (now (out .exit)) r ⌝ }
+{
+    let kanji = characters::KANJI;
+    to_ascii_with(&kanji, text, out)
 }

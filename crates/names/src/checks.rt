@@ -3,7 +3,7 @@ use crate::Checked;
 use crate::judges::judge_with;
 use rules::Class;
 ghost use mathlib.Core.Path.{_≡_};
-ghost use Rattle.rules.specs.Editions.{todayWith};
+ghost use Rattle.rules.specs.Editions.{today, todayWith};
 ghost use Rattle.names.specs.Calls.{Checks};
 ghost use Rattle.names.specs.Steps.{refusedCall};
 
@@ -39,4 +39,12 @@ pub fn check_with(kanji: &[u32], text: &[u32], out: &mut [u32]) -> Checked
         class,
         length,
     }
+}
+
+// The same by the kanji of this edition.
+pub fn check(text: &[u32], out: &mut [u32]) -> Checked
+    ensures { λ r. ⌜ Checks today (now (text .entry)) (now (out .entry)) (now (out .exit)) r ⌝ }
+{
+    let kanji = characters::KANJI;
+    check_with(&kanji, text, out)
 }

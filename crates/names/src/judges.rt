@@ -11,7 +11,7 @@ ghost use mathlib.Core.Path.{_≡_};
 ghost use mathlib.Core.List.{_∷_, []};
 ghost use Rattle.rules.specs.Labels.{labels};
 ghost use Rattle.rules.specs.Rules.{accepted};
-ghost use Rattle.rules.specs.Editions.{todayWith};
+ghost use Rattle.rules.specs.Editions.{today, todayWith};
 ghost use Rattle.names.specs.Calls.{judged};
 ghost use Rattle.names.specs.Steps.{refusal, byLabels};
 
@@ -140,4 +140,12 @@ pub fn judge_with(kanji: &[u32], text: &[u32]) -> Judged
         form,
         length,
     }
+}
+
+// The same by the kanji of this edition.
+pub fn judge(text: &[u32]) -> Judged
+    ensures { λ r. ⌜ r ≡ judged today (now (text .entry)) ⌝ }
+{
+    let kanji = characters::KANJI;
+    judge_with(&kanji, text)
 }

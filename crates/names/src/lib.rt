@@ -9,9 +9,13 @@ mod middles;
 mod prefectures;
 mod readers;
 
+pub use ascii::to_ascii;
 pub use ascii::to_ascii_with;
+pub use checks::check;
 pub use checks::check_with;
+pub use judges::judge;
 pub use judges::judge_with;
+pub use readers::reads;
 pub use readers::reads_with;
 
 pub struct Judged {

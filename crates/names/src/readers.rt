@@ -10,7 +10,7 @@ ghost use mathlib.Core.Bool.{_||_};
 ghost use Prim.Native.Nat.{_+_, _≤_, _<_};
 ghost use lib.ListN.{length};
 ghost use Rattle.rules.specs.Reader.{skip, note, lengthFits, ending, afterCharacter, afterHyphen, reader};
-ghost use Rattle.rules.specs.Editions.{todayWith};
+ghost use Rattle.rules.specs.Editions.{today, todayWith};
 
 fn either(a: bool, b: bool) -> bool
     ensures { λ r. ⌜ r ≡ (a || b) ⌝ }
@@ -131,4 +131,12 @@ pub fn reads_with(kanji: &[u32], label: &[u32]) -> bool
         return after_character(kanji, &label[1..], noted(kanji, none, x));
     }
     false
+}
+
+// The same by the kanji of this edition.
+pub fn reads(label: &[u32]) -> bool
+    ensures { λ r. ⌜ r ≡ reader today (now (label .entry)) ⌝ }
+{
+    let kanji = characters::KANJI;
+    reads_with(&kanji, label)
 }

@@ -5,9 +5,6 @@ use Rattle.names.proofs.Joining.{coded-no, coded-fits, coded-yes}
 use borrow.Author.Needs.{needs}
 use Rattle.names.proofs.ascii.put_coded.Statement.{statement}
 use Rattle.names.proofs.ascii.put_coded.Tie as tie
-use Rattle.names.proofs.ascii.put_coded.Reads as reads
-use Rattle.names.proofs.ascii.put_coded.Lts as lts
-use Rattle.punycode.proofs.encode.Reads as encode-reads
 
 sub-encode : tie.Need-sub-encode
 sub-encode c = search needs

@@ -5,11 +5,6 @@ use Rattle.names.proofs.Joining.{label-coded, label-plain, plain-fits}
 use borrow.Author.Needs.{needs}
 use Rattle.names.proofs.ascii.put_label.Statement.{statement}
 use Rattle.names.proofs.ascii.put_label.Tie as tie
-use Rattle.names.proofs.ascii.put_label.Reads as reads
-use Rattle.names.proofs.ascii.put_label.Lts as lts
-use Rattle.names.proofs.ascii.put_coded.Reads as put-coded-reads
-use Rattle.names.proofs.ascii.put_plain.Reads as put-plain-reads
-use Rattle.names.proofs.labels.any_japanese.Reads as any-japanese-reads
 
 any-japanese-requires : tie.Need-any-japanese-requires
 any-japanese-requires c κs = search needs

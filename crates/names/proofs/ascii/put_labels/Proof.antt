@@ -10,10 +10,6 @@ use Rattle.names.proofs.Joining.{Going, goes, turn-bounds, out-length, 
 use borrow.Author.Needs.{needs}
 use Rattle.names.proofs.ascii.put_labels.Statement.{statement}
 use Rattle.names.proofs.ascii.put_labels.Tie as tie
-use Rattle.names.proofs.ascii.put_labels.Reads as reads
-use Rattle.names.proofs.ascii.put_labels.Lts as lts
-use Rattle.names.proofs.ascii.put_label.Reads as put-label-reads
-use Rattle.names.proofs.labels.label_end.Reads as label-end-reads
 
 abbrev Inv-loop : tie.InvT-loop
 Inv-loop kanji form out₀ from₀ at₀ out from at = Going (todayWith kanji) form out₀ out from at

@@ -9,8 +9,6 @@ use Rattle.names.proofs.Joining.{octet-at, plain-turn, plain-end}
 use borrow.Author.Needs.{needs}
 use Rattle.names.proofs.ascii.put_plain.Statement.{statement}
 use Rattle.names.proofs.ascii.put_plain.Tie as tie
-use Rattle.names.proofs.ascii.put_plain.Reads as reads
-use Rattle.names.proofs.ascii.put_plain.Lts as lts
 
 abbrev Inv-loop : tie.InvT-loop
 Inv-loop label out₀ at i₀ out i = (i ≤ length label) × (length out ≡ length out₀) × (out ≡ paste out₀ at label i)

@@ -1,6 +1,6 @@
 -- `to_ascii_with` meets its contract: 1, what the judge says, then 14; what is put is copied last.
 -- Assumes nothing.
-use mathlib.Core.Path.{refl, _∙_}
+use mathlib.Core.Path.{refl}
 use native.Mathlib.Omega.{arith}
 use borrow.Author.Tests.{not-true, not-false}
 use Rattle.names.proofs.Answering.{passed, ascii-no-room, ascii-refused}
@@ -8,12 +8,6 @@ use Rattle.names.proofs.Enough.{ready, put-size, piece-length, stopped,
 use borrow.Author.Needs.{needs}
 use Rattle.names.proofs.ascii.to_ascii_with.Statement.{statement}
 use Rattle.names.proofs.ascii.to_ascii_with.Tie as tie
-use Rattle.names.proofs.ascii.to_ascii_with.Reads as reads
-use Rattle.names.proofs.ascii.to_ascii_with.Lts as lts
-use Rattle.bytes.proofs.copy.Reads as copy-reads
-use Rattle.names.proofs.ascii.put_labels.Reads as put-labels-reads
-use Rattle.names.proofs.checks.refused.Reads as refused-reads
-use Rattle.names.proofs.judges.judge_with.Reads as judge-with-reads
 
 refused-requires : tie.Need-refused-requires
 refused-requires c κs = search needs

@@ -5,11 +5,6 @@ use Rattle.names.proofs.Answering.{passed, check-no-room, check-refused
 use borrow.Author.Needs.{needs}
 use Rattle.names.proofs.checks.check_with.Statement.{statement}
 use Rattle.names.proofs.checks.check_with.Tie as tie
-use Rattle.names.proofs.checks.check_with.Reads as reads
-use Rattle.names.proofs.checks.check_with.Lts as lts
-use Rattle.lists.proofs.copy.Reads as copy-reads
-use Rattle.names.proofs.checks.refused.Reads as refused-reads
-use Rattle.names.proofs.judges.judge_with.Reads as judge-with-reads
 
 refused-requires : tie.Need-refused-requires
 refused-requires c κs = search needs

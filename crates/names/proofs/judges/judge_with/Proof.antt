@@ -5,12 +5,6 @@ use native.Mathlib.Omega.{arith}
 use borrow.Author.Needs.{needs}
 use Rattle.names.proofs.judges.judge_with.Statement.{statement}
 use Rattle.names.proofs.judges.judge_with.Tie as tie
-use Rattle.names.proofs.judges.judge_with.Reads as reads
-use Rattle.names.proofs.judges.judge_with.Lts as lts
-use Rattle.names.proofs.judges.name_rules.Reads as name-rules-reads
-use Rattle.names.proofs.labels.first_unfit.Reads as first-unfit-reads
-use Rattle.normal.proofs.normal_form.Reads as normal-form-reads
-use Rattle.normal.proofs.place_of.Reads as place-of-reads
 
 slice-aggregate-normal-form : tie.Need-slice-aggregate-normal-form
 slice-aggregate-normal-form c = search needs

@@ -2,16 +2,10 @@
 -- Assumes nothing.
 use mathlib.Core.Path.{_∙_}
 use native.Mathlib.Omega.{arith}
-use Rattle.names.proofs.OfName.{one-label, second-end, two-labels, three-labels, more-labels}
+use Rattle.names.proofs.OfName.{one-label, two-labels, three-labels, more-labels}
 use borrow.Author.Needs.{needs}
 use Rattle.names.proofs.judges.name_rules.Statement.{statement}
 use Rattle.names.proofs.judges.name_rules.Tie as tie
-use Rattle.names.proofs.judges.name_rules.Reads as reads
-use Rattle.names.proofs.judges.name_rules.Lts as lts
-use Rattle.names.proofs.judges.refused.Reads as refused-reads
-use Rattle.names.proofs.judges.three_labels.Reads as three-labels-reads
-use Rattle.names.proofs.judges.two_labels.Reads as two-labels-reads
-use Rattle.names.proofs.labels.label_end.Reads as label-end-reads
 
 label-end-requires : tie.Need-label-end-requires
 label-end-requires c κs = search needs

@@ -1,6 +1,6 @@
 -- `three_labels` meets its contract: the rows 6 to 12 in their order.
 -- Assumes nothing.
-use mathlib.Core.Path.{refl, sym, ap, _∙_}
+use mathlib.Core.Path.{sym, ap, _∙_}
 use mathlib.Core.Bool.{not}
 use borrow.Author.Tests.{not-true, not-false}
 use Rattle.rules.specs.Rules.{classOf}
@@ -9,13 +9,6 @@ use Rattle.names.proofs.OfName.{three-0, three-1, three-2, three-filled
 use borrow.Author.Needs.{needs}
 use Rattle.names.proofs.judges.three_labels.Statement.{statement}
 use Rattle.names.proofs.judges.three_labels.Tie as tie
-use Rattle.names.proofs.judges.three_labels.Reads as reads
-use Rattle.names.proofs.judges.three_labels.Lts as lts
-use Rattle.names.proofs.judges.accepted.Reads as accepted-reads
-use Rattle.names.proofs.judges.refused.Reads as refused-reads
-use Rattle.names.proofs.labels.is_jp.Reads as is-jp-reads
-use Rattle.names.proofs.labels.left_rule.Reads as left-rule-reads
-use Rattle.names.proofs.middles.is_prefecture.Reads as is-prefecture-reads
 
 refused-requires : tie.Need-refused-requires
 refused-requires c κs = search needs

@@ -7,12 +7,6 @@ use Rattle.names.proofs.OfName.{two-0, two-1, two-filled}
 use borrow.Author.Needs.{needs}
 use Rattle.names.proofs.judges.two_labels.Statement.{statement}
 use Rattle.names.proofs.judges.two_labels.Tie as tie
-use Rattle.names.proofs.judges.two_labels.Reads as reads
-use Rattle.names.proofs.judges.two_labels.Lts as lts
-use Rattle.names.proofs.judges.accepted.Reads as accepted-reads
-use Rattle.names.proofs.judges.refused.Reads as refused-reads
-use Rattle.names.proofs.labels.is_jp.Reads as is-jp-reads
-use Rattle.names.proofs.labels.left_rule.Reads as left-rule-reads
 
 refused-requires : tie.Need-refused-requires
 refused-requires c κs = search needs

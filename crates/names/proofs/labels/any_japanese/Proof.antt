@@ -11,9 +11,6 @@ use Rattle.rules.specs.Editions.{todayWith}
 use borrow.Author.Needs.{needs}
 use Rattle.names.proofs.labels.any_japanese.Statement.{statement}
 use Rattle.names.proofs.labels.any_japanese.Tie as tie
-use Rattle.names.proofs.labels.any_japanese.Reads as reads
-use Rattle.names.proofs.labels.any_japanese.Lts as lts
-use Rattle.characters.proofs.is_japanese.Reads as is-japanese-reads
 
 abbrev Inv-loop : tie.InvT-loop
 Inv-loop kanji label i₀ i = (i ≤ length label) × (anyOf (todayWith kanji .japanese) label ≡ anyOf (todayWith kanji .japanese) (drop i label))

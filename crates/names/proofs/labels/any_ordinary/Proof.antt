@@ -11,9 +11,6 @@ use Rattle.rules.specs.Editions.{todayWith}
 use borrow.Author.Needs.{needs}
 use Rattle.names.proofs.labels.any_ordinary.Statement.{statement}
 use Rattle.names.proofs.labels.any_ordinary.Tie as tie
-use Rattle.names.proofs.labels.any_ordinary.Reads as reads
-use Rattle.names.proofs.labels.any_ordinary.Lts as lts
-use Rattle.names.proofs.labels.is_ordinary.Reads as is-ordinary-reads
 
 abbrev Inv-loop : tie.InvT-loop
 Inv-loop kanji label i₀ i = (i ≤ length label) × (anyOf (ordinary (todayWith kanji)) label ≡ anyOf (ordinary (todayWith kanji)) (drop i label))

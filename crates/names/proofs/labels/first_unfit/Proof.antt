@@ -11,9 +11,6 @@ use Rattle.rules.specs.Editions.{todayWith}
 use borrow.Author.Needs.{needs}
 use Rattle.names.proofs.labels.first_unfit.Statement.{statement}
 use Rattle.names.proofs.labels.first_unfit.Tie as tie
-use Rattle.names.proofs.labels.first_unfit.Reads as reads
-use Rattle.names.proofs.labels.first_unfit.Lts as lts
-use Rattle.names.proofs.labels.is_unfit.Reads as is-unfit-reads
 
 abbrev Inv-loop : tie.InvT-loop
 Inv-loop kanji form i₀ i = firstOf (unfit (todayWith kanji)) form ≡ i + firstOf (unfit (todayWith kanji)) (drop i form)

@@ -4,10 +4,6 @@ use Rattle.names.proofs.OfLabel.{dot-bare, dot-none}
 use borrow.Author.Needs.{needs}
 use Rattle.names.proofs.labels.has_bare_dot.Statement.{statement}
 use Rattle.names.proofs.labels.has_bare_dot.Tie as tie
-use Rattle.names.proofs.labels.has_bare_dot.Reads as reads
-use Rattle.names.proofs.labels.has_bare_dot.Lts as lts
-use Rattle.lists.proofs.holds.Reads as holds-reads
-use Rattle.names.proofs.labels.any_ordinary.Reads as any-ordinary-reads
 
 holds-requires : tie.Need-holds-requires
 holds-requires c κs = search needs

@@ -4,8 +4,6 @@ use Rattle.names.proofs.OfLabel.{no-edge, edge-first, edge-last}
 use borrow.Author.Needs.{needs}
 use Rattle.names.proofs.labels.has_edge.Statement.{statement}
 use Rattle.names.proofs.labels.has_edge.Tie as tie
-use Rattle.names.proofs.labels.has_edge.Reads as reads
-use Rattle.names.proofs.labels.has_edge.Lts as lts
 
 returns : tie.Need-returns
 returns c = no-edge _ (c .if1 .taken)

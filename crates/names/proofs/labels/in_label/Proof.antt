@@ -5,10 +5,6 @@ use Rattle.names.proofs.OfLabel.{in-ascii, in-japanese}
 use borrow.Author.Needs.{needs}
 use Rattle.names.proofs.labels.in_label.Statement.{statement}
 use Rattle.names.proofs.labels.in_label.Tie as tie
-use Rattle.names.proofs.labels.in_label.Reads as reads
-use Rattle.names.proofs.labels.in_label.Lts as lts
-use Rattle.characters.proofs.is_ascii.Reads as is-ascii-reads
-use Rattle.characters.proofs.is_japanese.Reads as is-japanese-reads
 
 is-ascii-requires : tie.Need-is-ascii-requires
 is-ascii-requires c κs = search needs

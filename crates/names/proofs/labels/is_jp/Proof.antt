@@ -4,9 +4,6 @@ use Rattle.rules.specs.Rules.{jp}
 use borrow.Author.Needs.{needs}
 use Rattle.names.proofs.labels.is_jp.Statement.{statement}
 use Rattle.names.proofs.labels.is_jp.Tie as tie
-use Rattle.names.proofs.labels.is_jp.Reads as reads
-use Rattle.names.proofs.labels.is_jp.Lts as lts
-use Rattle.lists.proofs.same.Reads as same-reads
 
 slice-aggregate-same : tie.Need-slice-aggregate-same
 slice-aggregate-same c = search needs

@@ -1,11 +1,8 @@
 -- `is_long` meets its contract: 15 for a Japanese label, 63 for an ASCII one.
 -- Assumes nothing.
 use Rattle.names.proofs.OfLabel.{long-japanese, long-ascii}
-use borrow.Author.Needs.{needs}
 use Rattle.names.proofs.labels.is_long.Statement.{statement}
 use Rattle.names.proofs.labels.is_long.Tie as tie
-use Rattle.names.proofs.labels.is_long.Reads as reads
-use Rattle.names.proofs.labels.is_long.Lts as lts
 
 returns : tie.Need-returns
 returns c = long-japanese _ _ (c .if1 .taken)

@@ -5,9 +5,6 @@ use Rattle.names.proofs.OfLabel.{closing, prolonged, dotted, others}
 use borrow.Author.Needs.{needs}
 use Rattle.names.proofs.labels.is_ordinary.Statement.{statement}
 use Rattle.names.proofs.labels.is_ordinary.Tie as tie
-use Rattle.names.proofs.labels.is_ordinary.Reads as reads
-use Rattle.names.proofs.labels.is_ordinary.Lts as lts
-use Rattle.characters.proofs.is_japanese.Reads as is-japanese-reads
 
 returns : tie.Need-returns
 returns c = closing _ _ (c .if1 .taken)

@@ -4,8 +4,6 @@ use Rattle.names.proofs.OfLabel.{short-ascii}
 use borrow.Author.Needs.{needs}
 use Rattle.names.proofs.labels.is_short.Statement.{statement}
 use Rattle.names.proofs.labels.is_short.Tie as tie
-use Rattle.names.proofs.labels.is_short.Reads as reads
-use Rattle.names.proofs.labels.is_short.Lts as lts
 
 returns : tie.Need-returns
 returns c = search needs

@@ -4,9 +4,6 @@ use Rattle.names.proofs.OfLabel.{fit-period, fit-label}
 use borrow.Author.Needs.{needs}
 use Rattle.names.proofs.labels.is_unfit.Statement.{statement}
 use Rattle.names.proofs.labels.is_unfit.Tie as tie
-use Rattle.names.proofs.labels.is_unfit.Reads as reads
-use Rattle.names.proofs.labels.is_unfit.Lts as lts
-use Rattle.names.proofs.labels.in_label.Reads as in-label-reads
 
 returns : tie.Need-returns
 returns c = fit-period _ _ (c .if1 .taken)

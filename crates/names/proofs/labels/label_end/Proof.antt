@@ -11,8 +11,6 @@ use Rattle.rules.specs.Labels.{period}
 use borrow.Author.Needs.{needs}
 use Rattle.names.proofs.labels.label_end.Statement.{statement}
 use Rattle.names.proofs.labels.label_end.Tie as tie
-use Rattle.names.proofs.labels.label_end.Reads as reads
-use Rattle.names.proofs.labels.label_end.Lts as lts
 
 abbrev Inv-loop : tie.InvT-loop
 Inv-loop text from i₀ i = from + firstOf period (drop from text) ≡ i + firstOf period (drop i text)

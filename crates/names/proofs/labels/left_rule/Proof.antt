@@ -4,13 +4,6 @@ use Rattle.names.proofs.OfLabel.{is-7, is-8, is-9, is-10, is-0}
 use borrow.Author.Needs.{needs}
 use Rattle.names.proofs.labels.left_rule.Statement.{statement}
 use Rattle.names.proofs.labels.left_rule.Tie as tie
-use Rattle.names.proofs.labels.left_rule.Reads as reads
-use Rattle.names.proofs.labels.left_rule.Lts as lts
-use Rattle.names.proofs.labels.any_japanese.Reads as any-japanese-reads
-use Rattle.names.proofs.labels.has_bare_dot.Reads as has-bare-dot-reads
-use Rattle.names.proofs.labels.has_edge.Reads as has-edge-reads
-use Rattle.names.proofs.labels.is_long.Reads as is-long-reads
-use Rattle.names.proofs.labels.is_short.Reads as is-short-reads
 
 has-edge-requires : tie.Need-has-edge-requires
 has-edge-requires c κs = search needs

@@ -1,6 +1,5 @@
 -- `any_part` meets its contract: the parts that are left decide, at each turn.
 -- Assumes nothing.
-use mathlib.Core.Path.{_≡_}
 use Prim.Native.Nat.{_-_}
 use native.Mathlib.Omega.{arith}
 use lib.ListN.{length}
@@ -8,9 +7,6 @@ use Rattle.names.proofs.Middle.{Left, at-first, bounds, part-here, part
 use borrow.Author.Needs.{needs}
 use Rattle.names.proofs.middles.any_part.Statement.{statement}
 use Rattle.names.proofs.middles.any_part.Tie as tie
-use Rattle.names.proofs.middles.any_part.Reads as reads
-use Rattle.names.proofs.middles.any_part.Lts as lts
-use Rattle.lists.proofs.same.Reads as same-reads
 
 abbrev Inv-loop : tie.InvT-loop
 Inv-loop table starts label i₀ i = Left table starts label i

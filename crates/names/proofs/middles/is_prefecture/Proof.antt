@@ -7,9 +7,6 @@ use Rattle.names.specs.Steps.{parts, inOrder}
 use borrow.Author.Needs.{needs}
 use Rattle.names.proofs.middles.is_prefecture.Statement.{statement}
 use Rattle.names.proofs.middles.is_prefecture.Tie as tie
-use Rattle.names.proofs.middles.is_prefecture.Reads as reads
-use Rattle.names.proofs.middles.is_prefecture.Lts as lts
-use Rattle.names.proofs.middles.any_part.Reads as any-part-reads
 
 slice-aggregate-any-part : tie.Need-slice-aggregate-any-part
 slice-aggregate-any-part c = search needs

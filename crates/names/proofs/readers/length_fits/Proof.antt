@@ -2,11 +2,8 @@
 -- Assumes nothing.
 use native.Mathlib.Omega.{arith}
 use Rattle.names.proofs.Reading.{fits-japanese, fits-short, fits-ascii}
-use borrow.Author.Needs.{needs}
 use Rattle.names.proofs.readers.length_fits.Statement.{statement}
 use Rattle.names.proofs.readers.length_fits.Tie as tie
-use Rattle.names.proofs.readers.length_fits.Reads as reads
-use Rattle.names.proofs.readers.length_fits.Lts as lts
 
 returns : tie.Need-returns
 returns c = fits-japanese (c .before .args .n) _ (c .if1 .taken)

@@ -4,9 +4,6 @@ use Rattle.names.proofs.Reading.{end-dot, end-none, end-no}
 use borrow.Author.Needs.{needs}
 use Rattle.names.proofs.readers.may_end.Statement.{statement}
 use Rattle.names.proofs.readers.may_end.Tie as tie
-use Rattle.names.proofs.readers.may_end.Reads as reads
-use Rattle.names.proofs.readers.may_end.Lts as lts
-use Rattle.names.proofs.readers.length_fits.Reads as length-fits-reads
 
 length-fits-requires : tie.Need-length-fits-requires
 length-fits-requires c κs = search needs

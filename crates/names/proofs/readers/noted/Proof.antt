@@ -5,11 +5,6 @@ use Rattle.names.proofs.Reading.{note-is}
 use borrow.Author.Needs.{needs}
 use Rattle.names.proofs.readers.noted.Statement.{statement}
 use Rattle.names.proofs.readers.noted.Tie as tie
-use Rattle.names.proofs.readers.noted.Reads as reads
-use Rattle.names.proofs.readers.noted.Lts as lts
-use Rattle.characters.proofs.is_japanese.Reads as is-japanese-reads
-use Rattle.names.proofs.labels.is_ordinary.Reads as is-ordinary-reads
-use Rattle.names.proofs.readers.either.Reads as either-reads
 
 is-japanese-requires : tie.Need-is-japanese-requires
 is-japanese-requires c κs = search needs

@@ -7,11 +7,6 @@ use Rattle.names.proofs.Reading.{note-count, no-label, too-long, hyphen
 use borrow.Author.Needs.{needs}
 use Rattle.names.proofs.readers.reads_with.Statement.{statement}
 use Rattle.names.proofs.readers.reads_with.Tie as tie
-use Rattle.names.proofs.readers.reads_with.Reads as reads
-use Rattle.names.proofs.readers.reads_with.Lts as lts
-use Rattle.names.proofs.labels.in_label.Reads as in-label-reads
-use Rattle.names.proofs.readers.after_character.Reads as after-character-reads
-use Rattle.names.proofs.readers.noted.Reads as noted-reads
 
 returns : tie.Need-returns
 returns c = no-label _ _ (c .if1 .taken)

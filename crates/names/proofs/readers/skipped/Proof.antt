@@ -5,8 +5,6 @@ use Rattle.rules.specs.Reader.{skip}
 use borrow.Author.Needs.{needs}
 use Rattle.names.proofs.readers.skipped.Statement.{statement}
 use Rattle.names.proofs.readers.skipped.Tie as tie
-use Rattle.names.proofs.readers.skipped.Reads as reads
-use Rattle.names.proofs.readers.skipped.Lts as lts
 
 add-t2 : tie.Need-add-t2
 add-t2 c = search needs
