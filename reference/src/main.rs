@@ -1,10 +1,10 @@
-//! The program: `reference probe | cases | desk | count | sweep PART`.
+//! The program: `reference probe | cases | lines | desk | count | sweep PART`.
 
 use reference::{batch, cases, count, probe, sweep};
 use std::io::{self, BufRead, BufWriter, Read, Write};
 use std::process::ExitCode;
 
-const USAGE: &str = "usage: reference probe | cases | desk | count | sweep PART | samples COUNT SEED";
+const USAGE: &str = "usage: reference probe | cases | lines | desk | count | sweep PART | samples COUNT SEED";
 
 fn main() -> ExitCode {
     let words: Vec<String> = std::env::args().skip(1).collect();
@@ -13,6 +13,7 @@ fn main() -> ExitCode {
     let done = match words[..] {
         ["probe"] => answer_probes(&mut out),
         ["cases"] => write_lines(&mut out, cases::all_lines().into_iter()),
+        ["lines"] => out.write_all(&cases::lines::input()),
         ["desk"] => input().and_then(|bytes| out.write_all(&batch::desk(&bytes))),
         ["count"] => input().and_then(|bytes| write_counts(&mut out, &bytes)),
         ["sweep", part] => match sweep::lines(part) {

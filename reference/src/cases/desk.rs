@@ -114,7 +114,7 @@ fn name_octets(file: &mut CaseFile, octets: &[u8]) {
 }
 
 /// A text in UTF-8; code points that have none are left out.
-fn in_utf8(text: &[u32]) -> String {
+pub fn in_utf8(text: &[u32]) -> String {
     text.iter().filter_map(|code| char::from_u32(*code)).collect()
 }
 

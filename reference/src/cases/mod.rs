@@ -4,6 +4,7 @@
 pub mod characters;
 pub mod coder;
 pub mod desk;
+pub mod lines;
 pub mod names;
 pub mod random;
 pub mod tried;
