@@ -23,7 +23,7 @@ use Rattle.rules.specs.Rules.{labelRows, nameRows, textRows, classOf, verdict, 
 use Rattle.rules.specs.declared.Class.{Class}
 use Rattle.rules.proofs.Steps.{refused-before}
 use Rattle.names.specs.Calls.{judged, checked, Answers, checkRows, Checks, uncoded, asciiForm, asciiRows, AsciiForms}
-use Rattle.names.specs.Steps.{refusedCall}
+use Rattle.names.specs.Steps.{refusedCall, acceptedCall}
 use Rattle.names.specs.declared.Judged.{Judged}
 use Rattle.names.specs.declared.Checked.{Checked}
 use Rattle.names.proofs.Judging.{shown-whole, unpadded}
@@ -38,10 +38,10 @@ module _ (rows : List Row) (text xs before : List ℕ) where
       let none = given-none (record { number = n; place = p }) xs h in
       record { result = q ∙ rw (e, none, ne-eqb n 0 h); buffer = rw (e, none) (sym (untouched before)) }
 
-  answers-yes : {k : Class} {n : ℕ} {after : List ℕ} → first rows ≡ record { number = 0; place = 0 } → k ≡ classOf (labels (normalForm text))
-      → n ≡ length xs → after ≡ written xs before → Answers rows text xs before after (record { number = 0; place = 0; class = k; length = n })
+  answers-yes : {k : Class} {n : ℕ} {after : List ℕ} {r : Checked} → r ≡ acceptedCall k n → first rows ≡ record { number = 0; place = 0 }
+      → k ≡ classOf (labels (normalForm text)) → n ≡ length xs → after ≡ written xs before → Answers rows text xs before after r
   unfolding checked verdict given
-  answers-yes e p q w = record { result = rw (e, p, q); buffer = rw e w }
+  answers-yes z e p q w = record { result = z ∙ rw (e, p, q); buffer = rw e w }
 
 -- ---- an accepted name
 
@@ -98,13 +98,12 @@ module _ (P : Permits) (text before : List ℕ) where
     pub check-refused : {r : Checked} → r ≡ refusedCall (j .number) (j .place) → (j .number ≡ 0 → ⊥) → Checks P text before before r
     check-refused q n = answers-no _ text _ before q (checking ∙ answer-is P text e) n
 
-    pub check-accepted : {after : List ℕ} (z : j .number ≡ 0)
-        → after ≡ written (take (length before) (take (j .length - 0) (drop 0 (j .form)))) before
-        → Checks P text before after (record { number = 0; place = 0; class = j .class; length = j .length })
-    check-accepted z w =
+    pub check-accepted : {after : List ℕ} {r : Checked} → r ≡ acceptedCall (j .class) (j .length) → j .number ≡ 0
+        → after ≡ written (take (length before) (take (j .length - 0) (drop 0 (j .form)))) before → Checks P text before after r
+    check-accepted q z w =
         let p = passed P text e z in
         let all : take (length before) (normalForm text) ≡ normalForm text = take-all (length before) (normalForm text) (omega (arith, p .size, p .in-array)) in
-        answers-yes _ text _ before (checking ∙ clear (textRows P text) (p .clear)) (p .class) (p .size) (w ∙ rw (p .form, all))
+        answers-yes _ text _ before q (checking ∙ clear (textRows P text) (p .clear)) (p .class) (p .size) (w ∙ rw (p .form, all))
 
 -- ---- the whole ASCII form
 
@@ -130,8 +129,7 @@ module _ (P : Permits) (text before : List ℕ) where
       pub ascii-uncoded : {r : Checked} → r ≡ refusedCall 14 0 → anyOf (uncoded P) (labels (normalForm text)) ≡ true → AsciiForms P text before before r
       ascii-uncoded z q = answers-no _ text _ before z (judged-on ∙ hit 14 (anyOf (uncoded P) (labels (normalForm text))) 0 [] q) (λ z. omega arith)
 
-      pub ascii-accepted : {n : ℕ} {after : List ℕ} → anyOf (uncoded P) (labels (normalForm text)) ≡ false → n ≡ length (asciiForm P (normalForm text))
-          → after ≡ written (asciiForm P (normalForm text)) before
-          → AsciiForms P text before after (record { number = 0; place = 0; class = j .class; length = n })
-      ascii-accepted q s w =
-          answers-yes _ text _ before (judged-on ∙ clear (row 14 (anyOf (uncoded P) (labels (normalForm text))) 0 ∷ []) (q, tt)) (p .class) s w
+      pub ascii-accepted : {n : ℕ} {after : List ℕ} {r : Checked} → r ≡ acceptedCall (j .class) n → anyOf (uncoded P) (labels (normalForm text)) ≡ false
+          → n ≡ length (asciiForm P (normalForm text)) → after ≡ written (asciiForm P (normalForm text)) before → AsciiForms P text before after r
+      ascii-accepted z q s w =
+          answers-yes _ text _ before z (judged-on ∙ clear (row 14 (anyOf (uncoded P) (labels (normalForm text))) 0 ∷ []) (q, tt)) (p .class) s w

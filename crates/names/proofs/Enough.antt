@@ -24,7 +24,7 @@ use Rattle.rules.proofs.Cuts.{labels-fit}
 use Rattle.rules.proofs.Sound.{ascii-range}
 use Rattle.rules.proofs.Today.{today-laws}
 use Rattle.names.specs.Calls.{judged, asciiForm, uncoded, AsciiForms}
-use Rattle.names.specs.Steps.{octet, writable, Writable, Tries, refusedCall}
+use Rattle.names.specs.Steps.{octet, writable, Writable, Tries, refusedCall, acceptedCall}
 use Rattle.names.specs.declared.Judged.{Judged}
 use Rattle.names.specs.declared.Checked.{Checked}
 use Rattle.names.specs.declared.ascii.Put.{Put}
@@ -121,13 +121,13 @@ module _ (P : Permits) (text : List ℕ) {j : Judged} (e : j ≡ judged P text) 
     stopped q n =
         ascii-uncoded P text before h e (passed P text e z) q (not-false (anyOf (uncoded P) (labels (normalForm text))) (sym (tries .coded) ∙ n))
 
-    pub finished : {after : List ℕ} {n : ℕ} → r .coded ≡ true → n ≡ length (take (r .at - 0) (drop 0 last))
-        → after ≡ take n (take (r .at - 0) (drop 0 last)) ++ drop n before
-        → AsciiForms P text before after (record { number = 0; place = 0; class = j .class; length = r .at })
+    pub finished : {after : List ℕ} {n : ℕ} {a : Checked} → a ≡ acceptedCall (j .class) (r .at) → r .coded ≡ true
+        → n ≡ length (take (r .at - 0) (drop 0 last)) → after ≡ take n (take (r .at - 0) (drop 0 last)) ++ drop n before
+        → AsciiForms P text before after a
     unfolding written
-    finished {after} {n} y m w =
+    finished {after} {n} q y m w =
         let k : n ≡ length (asciiForm P (normalForm text)) = m ∙ ap length (piece y) in
         let all : take (length (asciiForm P (normalForm text))) (asciiForm P (normalForm text)) ≡ asciiForm P (normalForm text) =
         take-all (length (asciiForm P (normalForm text))) (asciiForm P (normalForm text)) (omega arith) in
-        ascii-accepted P text before h e (passed P text e z) (not-true (anyOf (uncoded P) (labels (normalForm text))) (sym (tries .coded) ∙ y)) (place-is y)
+        ascii-accepted P text before h e (passed P text e z) q (not-true (anyOf (uncoded P) (labels (normalForm text))) (sym (tries .coded) ∙ y)) (place-is y)
         (w ∙ rw (piece y, k, all))

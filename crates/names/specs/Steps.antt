@@ -10,6 +10,7 @@ use Rattle.lists.specs.Rows.{first}
 use Rattle.rules.specs.Labels.{labels}
 use Rattle.rules.specs.Permits.{Permits}
 use Rattle.rules.specs.Rules.{isJapanese, labelRows, nameRows, verdict}
+use Rattle.rules.specs.declared.Class.{Class}
 use Rattle.rules.specs.declared.Class.the-variants.{None}
 use Rattle.rules.specs.declared.Verdict.{Verdict}
 use Rattle.names.specs.declared.Checked.{Checked}
@@ -28,6 +29,9 @@ refusal n p = record { number = n; place = p; class = None }
 
 abbrev pub refusedCall : ℕ → ℕ → Checked
 refusedCall n p = record { number = n; place = p; class = None; length = 0 }
+
+abbrev pub acceptedCall : Class → ℕ → Checked
+acceptedCall k n = record { number = 0; place = 0; class = k; length = n }
 
 -- a table cut where each part starts, the last start being the end of the last part
 unfoldable pub parts : List ℕ → List ℕ → List (List ℕ)

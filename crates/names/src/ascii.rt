@@ -1,10 +1,15 @@
 // The whole ASCII form of a name: each Japanese label encoded, ASCII labels as they are, joined by periods. What the coder does
 // is known by its stated answers alone.
+use crate::ACCEPTED;
 use crate::Checked;
+use crate::NO_ROOM;
+use crate::OVER_63;
+use crate::checks::accepted;
 use crate::checks::refused;
 use crate::judges::judge_with;
 use crate::labels::any_japanese;
 use crate::labels::label_end;
+use crate::tables::table;
 ghost use mathlib.Core.Path.{_≡_};
 ghost use mathlib.Core.Bool.{true, not};
 ghost use Prim.Native.Nat.{_+_, _≤_};
@@ -84,7 +89,7 @@ fn put_labels(kanji: &[u32], form: &[u32], out: &mut [u8]) -> Put
         if end >= form.len() {
             return put;
         }
-        out[at] = 0x2E;
+        out[at] = b'.';
         at += 1;
         from = end + 1;
     }
@@ -94,10 +99,10 @@ pub fn to_ascii_with(kanji: &[u32], text: &[u32], out: &mut [u8]) -> Checked
     ensures { λ r. ⌜ AsciiForms (todayWith (now (kanji .entry))) (now (text .entry)) (now (out .entry)) (now (out .exit)) r ⌝ }
 {
     if out.len() < 192 {
-        return refused(1, 0);
+        return refused(NO_ROOM, 0);
     }
     let judged = judge_with(kanji, text);
-    if judged.number != 0 {
+    if judged.number != ACCEPTED {
         return refused(judged.number, judged.place);
     }
     let n = judged.length;
@@ -105,24 +110,19 @@ pub fn to_ascii_with(kanji: &[u32], text: &[u32], out: &mut [u8]) -> Checked
     let mut ascii = [0u8; 192];
     let put = put_labels(kanji, &form[0..n], &mut ascii);
     if !put.coded {
-        return refused(14, 0);
+        return refused(OVER_63, 0);
     }
     let length = put.at;
     let octets: &[u8] = &ascii;
     bytes::copy(&octets[0..length], out);
     let class = judged.class;
-    Checked {
-        number: 0,
-        place: 0,
-        class,
-        length,
-    }
+    accepted(class, length)
 }
 
 // The same by the kanji of this edition.
 pub fn to_ascii(text: &[u32], out: &mut [u8]) -> Checked
     ensures { λ r. ⌜ AsciiForms today (now (text .entry)) (now (out .entry)) (now (out .exit)) r ⌝ }
 {
-    let kanji = characters::KANJI;
+    let kanji = table();
     to_ascii_with(&kanji, text, out)
 }

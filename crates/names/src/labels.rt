@@ -1,4 +1,9 @@
 // What is asked of one label, and of the characters of a form.
+use crate::ACCEPTED;
+use crate::BARE_DOT;
+use crate::HYPHEN_EDGE;
+use crate::TOO_LONG;
+use crate::TOO_SHORT;
 ghost use mathlib.Core.Path.{_≡_};
 ghost use mathlib.Core.Bool.{not, _&&_};
 ghost use Prim.Native.Nat.{_+_};
@@ -156,20 +161,20 @@ pub fn left_rule(kanji: &[u32], label: &[u32]) -> u8
     ensures { λ r. ⌜ r ≡ labelNumber (todayWith (now (kanji .entry))) (now (label .entry)) ⌝ }
 {
     if has_edge(label) {
-        return 7;
+        return HYPHEN_EDGE;
     }
     let n = label.len();
     let japanese = any_japanese(kanji, label);
     if is_short(n, japanese) {
-        return 8;
+        return TOO_SHORT;
     }
     if is_long(n, japanese) {
-        return 9;
+        return TOO_LONG;
     }
     if has_bare_dot(kanji, label) {
-        return 10;
+        return BARE_DOT;
     }
-    0
+    ACCEPTED
 }
 
 const JP: [u32; 2] = [0x6A, 0x70];

@@ -67,11 +67,14 @@ copy-requires c κs =
     let l = piece-length _ _ e z t y in
     omega (arith, c .before .before .before .before .before .before .put-labels .kept .1 .1 .0, c .before .before .before .before .before .before .before .before .before .before .before .before .before .before .if1 .left)
 
+accepted-requires : tie.Need-accepted-requires
+accepted-requires c κs = search needs
+
 same-length : tie.Need-same-length
 same-length c = search needs
 
 returns-4 : tie.Need-returns-4
-returns-4 c = finished _ _ (c .before .before .before .before .before .before .before .before .before .before .before .before .before .before .before .before .judge-with .ensures) (c .before .before .before .before .before .before .before .before .before .before .before .before .before .before .before .if2 .left) (c .before .before .before .before .before .before .before .before .before .put-labels .ensures) _ (c .before .before .before .before .before .before .before .before .before .before .before .before .before .before .before .before .before .if1 .left) (not-false _ (c .before .before .before .before .before .before .if3 .left)) refl (c .before .before .copy .ensures .1)
+returns-4 c = finished _ _ (c .before .before .before .before .before .before .before .before .before .before .before .before .before .before .before .before .before .judge-with .ensures) (c .before .before .before .before .before .before .before .before .before .before .before .before .before .before .before .before .if2 .left) (c .before .before .before .before .before .before .before .before .before .before .put-labels .ensures) _ (c .before .before .before .before .before .before .before .before .before .before .before .before .before .before .before .before .before .before .if1 .left) (c .accepted .ensures) (not-false _ (c .before .before .before .before .before .before .before .if3 .left)) refl (c .before .before .before .copy .ensures .1)
 
 pub to-ascii-with-spec : {M : Type 1} → statement M
 to-ascii-with-spec =
@@ -94,5 +97,6 @@ to-ascii-with-spec =
     part-copy-start
     part-copy-end
     copy-requires
+    accepted-requires
     same-length
     returns-4)

@@ -33,11 +33,14 @@ part-copy-end c = let p = passed _ _ (c .before .before .before .before .judge-w
 copy-requires : tie.Need-copy-requires
 copy-requires c κs = search needs
 
+accepted-requires : tie.Need-accepted-requires
+accepted-requires c κs = search needs
+
 same-length : tie.Need-same-length
 same-length c = search needs
 
 returns-3 : tie.Need-returns-3
-returns-3 c = check-accepted _ _ _ (c .before .before .before .before .before .before .before .before .before .before .if1 .left) (c .before .before .before .before .before .before .before .before .before .judge-with .ensures) (c .before .before .before .before .before .before .before .before .if2 .left) (c .before .before .copy .ensures)
+returns-3 c = check-accepted _ _ _ (c .before .before .before .before .before .before .before .before .before .before .before .if1 .left) (c .before .before .before .before .before .before .before .before .before .before .judge-with .ensures) (c .accepted .ensures) (c .before .before .before .before .before .before .before .before .before .if2 .left) (c .before .before .before .copy .ensures)
 
 pub check-with-spec : {M : Type 1} → statement M
 check-with-spec =
@@ -52,5 +55,6 @@ check-with-spec =
     part-copy-start
     part-copy-end
     copy-requires
+    accepted-requires
     same-length
     returns-3)
