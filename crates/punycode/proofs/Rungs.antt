@@ -3,7 +3,7 @@
 use mathlib.Core.Path.{_≡_, sym, _∙_}
 use mathlib.Core.Bool.{Bool, true, false, or-true, or-false}
 use mathlib.Core.List.{List, [], _∷_}
-use Prim.Native.Nat.{ℕ, _+_, _-_, _≤_, _<_}
+use Prim.Native.Nat.{ℕ, _+_, _-_, _%_, _≤_, _<_}
 use native.Mathlib.Omega.{arith}
 use lib.Dec.{ltb, leb}
 use lib.ListN.{length}
@@ -104,18 +104,17 @@ module _ (c : ℕ) where
 
 -- ---- the least so far
 
-module _ (n c m : ℕ) where
-  pub nearer-yes : n ≤ c → c < m → c ≡ nearer n c m
+-- d is how far c is above n, modulo 2 ^ 32
+module _ (n c k d : ℕ) (wraps : (d + n) % 0x100000000 ≡ c) (low : n + k ≤ 0x110000) where
+  pub nearer-yes : d < k → n + d ≡ nearer n c (n + k)
   unfolding nearer
-  nearer-yes h k = rw (le-leb n c h, lt-ltb c m k)
+  nearer-yes h =
+      let e : c ≡ n + d = omega arith in
+      rw (le-leb n c (omega arith), lt-ltb c (n + k) (omega arith)) (omega arith)
 
-  pub nearer-far : n ≤ c → m ≤ c → m ≡ nearer n c m
+  pub nearer-no : d < 0x100000000 → k ≤ d → n + k ≡ nearer n c (n + k)
   unfolding nearer
-  nearer-far h k = rw (le-leb n c h, le-ltb c m k)
-
-  pub nearer-low : c < n → m ≡ nearer n c m
-  unfolding nearer
-  nearer-low h = rw (lt-leb n c h)
+  nearer-no f h = split c n (λ l. rw (lt-leb n c l)) (λ g. rw (le-leb n c g, le-ltb c (n + k) (omega arith)))
 
 pub delimiter-no : (b : ℕ) → b ≡ 0 → delimiter b ≡ []
 unfolding delimiter
