@@ -23,9 +23,8 @@ use Rattle.rules.proofs.Views.{and-false, all-but}
 use Rattle.rules.proofs.Cuts.{labels-fit}
 use Rattle.rules.proofs.Sound.{ascii-range}
 use Rattle.rules.proofs.Today.{today-laws}
-use Rattle.names.specs.Calls.{judged, asciiForm, uncoded, AsciiForms}
-use Rattle.names.specs.Steps.{octet, writable, Writable, Tries, refusedCall}
-use Rattle.names.specs.declared.Judged.{Judged}
+use Rattle.names.specs.Calls.{asciiForm, uncoded, AsciiForms}
+use Rattle.names.specs.Steps.{octet, writable, Writable, Tries, refusedCall, Judges}
 use Rattle.names.specs.declared.Checked.{Checked}
 use Rattle.names.specs.declared.ascii.Put.{Put}
 use Rattle.names.proofs.Answering.{passed, ascii-uncoded, ascii-accepted}
@@ -84,8 +83,8 @@ jp-writable : (P : Permits) → writable P jp ≡ true
 unfolding writable jp allOf octet
 jp-writable P = or-right (isJapanese P (0x6A ∷ 0x70 ∷ [])) true refl
 
-pub ready : (table text : List ℕ) {j : Judged} → j ≡ judged (todayWith table) text → j .number ≡ 0
-    → Writable (todayWith table) (take (j .length - 0) (drop 0 (j .form))) 192
+pub ready : (table text : List ℕ) {lent after : List ℕ} {j : Checked} → Judges (todayWith table) text lent after j → j .number ≡ 0
+    → Writable (todayWith table) (take (j .length - 0) (drop 0 after)) 192
 unfolding todayWith
 ready table text e z =
     let P = todayWith table in
@@ -96,8 +95,8 @@ ready table text e z =
 
 -- ---- what is put is the form
 
-module _ (P : Permits) (text : List ℕ) {j : Judged} (e : j ≡ judged P text) (z : j .number ≡ 0) {zeros last : List ℕ} {r : Put}
-    (t : Tries (not (anyOf (uncoded P) (labels (take (j .length - 0) (drop 0 (j .form)))))) (asciiForm P (take (j .length - 0) (drop 0 (j .form)))) zeros last 0 r) where
+module _ (P : Permits) (text : List ℕ) {lent form : List ℕ} {j : Checked} (e : Judges P text lent form j) (z : j .number ≡ 0) {zeros last : List ℕ} {r : Put}
+    (t : Tries (not (anyOf (uncoded P) (labels (take (j .length - 0) (drop 0 form))))) (asciiForm P (take (j .length - 0) (drop 0 form))) zeros last 0 r) where
   tries : Tries (not (anyOf (uncoded P) (labels (normalForm text)))) (asciiForm P (normalForm text)) zeros last 0 r
   tries = rw (passed P text e z .form) at t
 

@@ -2,7 +2,7 @@
 // is known by its stated answers alone.
 use crate::Checked;
 use crate::checks::refused;
-use crate::judges::judge_with;
+use crate::judges::judge_into;
 use crate::labels::any_japanese;
 use crate::labels::label_end;
 ghost use mathlib.Core.Path.{_≡_};
@@ -96,14 +96,15 @@ pub fn to_ascii_with(kanji: &[u32], text: &[u32], out: &mut [u8]) -> Checked
     if out.len() < 192 {
         return refused(1, 0);
     }
-    let judged = judge_with(kanji, text);
+    let mut form = [0u32; 256];
+    let judged = judge_into(kanji, text, &mut form);
     if judged.number != 0 {
         return refused(judged.number, judged.place);
     }
     let n = judged.length;
-    let form: &[u32] = &judged.form;
+    let whole: &[u32] = &form;
     let mut ascii = [0u8; 192];
-    let put = put_labels(kanji, &form[0..n], &mut ascii);
+    let put = put_labels(kanji, &whole[0..n], &mut ascii);
     if !put.coded {
         return refused(14, 0);
     }

@@ -1,6 +1,6 @@
 // The check: the judge, and with 0 the normal form is written.
 use crate::Checked;
-use crate::judges::judge_with;
+use crate::judges::judge_into;
 use rules::Class;
 ghost use mathlib.Core.Path.{_≡_};
 ghost use Rattle.rules.specs.Editions.{today, todayWith};
@@ -25,13 +25,14 @@ pub fn check_with(kanji: &[u32], text: &[u32], out: &mut [u32]) -> Checked
     if out.len() < 256 {
         return refused(1, 0);
     }
-    let judged = judge_with(kanji, text);
+    let mut form = [0u32; 256];
+    let judged = judge_into(kanji, text, &mut form);
     if judged.number != 0 {
         return refused(judged.number, judged.place);
     }
     let length = judged.length;
-    let form: &[u32] = &judged.form;
-    lists::copy(&form[0..length], out);
+    let whole: &[u32] = &form;
+    lists::copy(&whole[0..length], out);
     let class = judged.class;
     Checked {
         number: 0,

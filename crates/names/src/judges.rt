@@ -1,4 +1,5 @@
 // The judge: what the rules say of a text, with its normal form. Every other call on a name asks it.
+use crate::Checked;
 use crate::Judged;
 use crate::labels::first_unfit;
 use crate::labels::is_jp;
@@ -9,11 +10,13 @@ use rules::Class;
 use rules::Verdict;
 ghost use mathlib.Core.Path.{_≡_};
 ghost use mathlib.Core.List.{_∷_, []};
+ghost use Prim.Native.Nat.{_≤_};
+ghost use lib.ListN.{length};
 ghost use Rattle.rules.specs.Labels.{labels};
 ghost use Rattle.rules.specs.Rules.{accepted};
 ghost use Rattle.rules.specs.Editions.{today, todayWith};
 ghost use Rattle.names.specs.Calls.{judged};
-ghost use Rattle.names.specs.Steps.{refusal, byLabels};
+ghost use Rattle.names.specs.Steps.{refusal, byLabels, Judges};
 
 fn refused(number: u8, place: usize) -> Verdict
     ensures { λ r. ⌜ r ≡ refusal number place ⌝ }
@@ -104,41 +107,53 @@ fn name_rules(kanji: &[u32], form: &[u32]) -> Verdict
     refused(5, 0)
 }
 
-// Given room, the rules on a text: 2 to 12. The text's table of kanji is lent.
+// The rules on a text, 2 to 12; its normal form is left at the start of the lent buffer.
+pub fn judge_into(kanji: &[u32], text: &[u32], form: &mut [u32]) -> Checked
+    requires { ⌜ 256 ≤ length (now form) ⌝ }
+    ensures { λ r. ⌜ Judges (todayWith (now (kanji .entry))) (now (text .entry)) (now (form .entry)) (now (form .exit)) r ⌝ }
+{
+    let normal = normal::normal_form(text, form);
+    let length = normal.length;
+    if normal.number != 0 {
+        return Checked {
+            number: normal.number,
+            place: normal.place,
+            class: Class::None,
+            length,
+        };
+    }
+    let k = first_unfit(kanji, &form[0..length]);
+    if k < length {
+        return Checked {
+            number: 4,
+            place: normal::place_of(text, k),
+            class: Class::None,
+            length,
+        };
+    }
+    let verdict = name_rules(kanji, &form[0..length]);
+    let class = verdict.class;
+    Checked {
+        number: verdict.number,
+        place: verdict.place,
+        class,
+        length,
+    }
+}
+
+// The same with the buffer in the result. The table of kanji is lent.
 pub fn judge_with(kanji: &[u32], text: &[u32]) -> Judged
     ensures { λ r. ⌜ r ≡ judged (todayWith (now (kanji .entry))) (now (text .entry)) ⌝ }
 {
     let mut form = [0u32; 256];
-    let normal = normal::normal_form(text, &mut form);
-    let length = normal.length;
-    if normal.number != 0 {
-        return Judged {
-            number: normal.number,
-            place: normal.place,
-            class: Class::None,
-            form,
-            length,
-        };
-    }
-    let whole: &[u32] = &form;
-    let k = first_unfit(kanji, &whole[0..length]);
-    if k < length {
-        return Judged {
-            number: 4,
-            place: normal::place_of(text, k),
-            class: Class::None,
-            form,
-            length,
-        };
-    }
-    let verdict = name_rules(kanji, &whole[0..length]);
-    let class = verdict.class;
+    let ruled = judge_into(kanji, text, &mut form);
+    let class = ruled.class;
     Judged {
-        number: verdict.number,
-        place: verdict.place,
+        number: ruled.number,
+        place: ruled.place,
         class,
         form,
-        length,
+        length: ruled.length,
     }
 }
 
