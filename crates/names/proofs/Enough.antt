@@ -9,7 +9,7 @@ use native.Mathlib.Omega.{arith}
 use lib.Dec.{leb}
 use lib.ListN.{length, take, drop, length-append}
 use lib.Seq.{take-at, take-all}
-use borrow.Author.Tests.{ne-eqb, le-leb, lt-ltb, ltb-false, not-true, not-false}
+use borrow.Author.Tests.{ne-eqb, le-leb, ltb-false, not-true, not-false}
 use Rattle.lists.specs.Tests.{allOf, anyOf, same}
 use Rattle.lists.specs.Front.{written}
 use Rattle.lists.proofs.Laws.{both, or-right, clash, same-is}
@@ -19,15 +19,15 @@ use Rattle.rules.specs.Labels.{labels}
 use Rattle.rules.specs.Permits.{Permits, labelChar}
 use Rattle.rules.specs.Rules.{isJapanese, long, jp, labelRows, nameRows, textRows}
 use Rattle.rules.specs.Editions.{isPrefecture, today, todayWith}
-use Rattle.rules.proofs.Views.{and-false, all-but}
+use Rattle.rules.proofs.Views.{and-false}
 use Rattle.rules.proofs.Cuts.{labels-fit}
-use Rattle.rules.proofs.Sound.{ascii-range}
 use Rattle.rules.proofs.Today.{today-laws}
 use Rattle.names.specs.Calls.{asciiForm, uncoded, AsciiForms}
 use Rattle.names.specs.Steps.{octet, writable, Writable, Tries, refusedCall, Judges}
 use Rattle.names.specs.declared.Checked.{Checked}
 use Rattle.names.specs.declared.ascii.Put.{Put}
 use Rattle.names.proofs.Answering.{passed, ascii-uncoded, ascii-accepted}
+use Rattle.names.proofs.OfLabel.{ascii-octets}
 
 -- ---- a law of each label of an accepted name
 
@@ -60,15 +60,12 @@ module _ (P : Permits) (f : List ℕ → Bool) (left : (l : List ℕ) → allOf 
 -- ---- of at most 63 characters where it is not coded
 
 label-writable : (P : Permits) (l : List ℕ) → allOf (labelChar P) l ≡ true → (isJapanese P l ≡ false → length l ≤ 63) → writable P l ≡ true
-unfolding writable isJapanese labelChar octet
-label-writable P l a k = go (anyOf (P .japanese) l) refl
+unfolding writable
+label-writable P l a k = go (isJapanese P l) refl
   where
-    in-octet : (c : ℕ) → labelChar P c ≡ true → P .japanese c ≡ false → octet c ≡ true
-    in-octet c e p = lt-ltb c 0x100 (let h = ascii-range c (rw p at e) in omega arith)
-
-    go : (j : Bool) → anyOf (P .japanese) l ≡ j → anyOf (P .japanese) l || (leb (length l) 63 && allOf octet l) ≡ true
+    go : (j : Bool) → isJapanese P l ≡ j → isJapanese P l || (leb (length l) 63 && allOf octet l) ≡ true
     go true p = rw p
-    go false p = rw (p, le-leb (length l) 63 (k p), all-but (labelChar P) (P .japanese) octet in-octet l a p)
+    go false p = rw (p, le-leb (length l) 63 (k p), ascii-octets P l a p)
 
 left-size : (P : Permits) (l : List ℕ) → long P l ≡ false → isJapanese P l ≡ false → length l ≤ 63
 unfolding long

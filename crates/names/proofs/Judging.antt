@@ -162,9 +162,14 @@ module _ (P : Permits) {text before after : List ℕ} {r : Normal} (room : 256 �
           let at : p ≡ getD (places text) (firstOf (unfit P) (normalForm text)) 0 = q ∙ ap (λ (j : ℕ). getD (places text) j 0) first-is in
           rw at (judges-whole (text-4 P text (f .0) (f .1) some))
 
+      none-unfit : r .length ≤ k → anyOf (unfit P) (normalForm text) ≡ false
+      none-unfit h = let f = formed room n z in not-found (unfit P) (normalForm text) (omega (arith, first-is, f .2))
+
+      pub form-fit : r .length ≤ k → anyOf (unfit P) (take (r .length - 0) (drop 0 after)) ≡ false
+      form-fit h = rw (form-is room n z) (none-unfit h)
+
       pub judges-fit : {v : Verdict} → r .length ≤ k → v ≡ byLabels P (labels (take (r .length - 0) (drop 0 after)))
           → Judges P text before after (record { number = v .number; place = v .place; class = v .class; length = r .length })
       judges-fit {v} h q =
           let f = formed room n z in
-          let none = not-found (unfit P) (normalForm text) (omega (arith, first-is, f .2)) in
-          judges-whole (text-on P text (f .0) (f .1) none ∙ ap (λ (l : List ℕ). byLabels P (labels l)) (sym (form-is room n z)) ∙ sym q)
+          judges-whole (text-on P text (f .0) (f .1) (none-unfit h) ∙ ap (λ (l : List ℕ). byLabels P (labels l)) (sym (form-is room n z)) ∙ sym q)

@@ -53,6 +53,10 @@ inOrder n (a ∷ b ∷ ss) = leb a b && inOrder n (b ∷ ss)
 unfoldable pub octet : ℕ → Bool
 octet c = ltb c 0x100
 
+-- past what an octet holds
+unfoldable pub wide : ℕ → Bool
+wide c = ltb 0xFF c
+
 -- a label whose ASCII form has room in 63 octets, if the coder takes it
 unfoldable pub writable : Permits → List ℕ → Bool
 writable P l = isJapanese P l || (leb (length l) 63 && allOf octet l)

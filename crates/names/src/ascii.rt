@@ -3,7 +3,7 @@
 use crate::Checked;
 use crate::checks::refused;
 use crate::judges::judge_into;
-use crate::labels::any_japanese;
+use crate::labels::any_wide;
 use crate::labels::label_end;
 ghost use mathlib.Core.Path.{_≡_};
 ghost use mathlib.Core.Bool.{true, not};
@@ -58,7 +58,7 @@ fn put_label(kanji: &[u32], label: &[u32], out: &mut [u8], at: usize) -> Put
     requires { ⌜ (writable (todayWith (now kanji)) (now label) ≡ true) × (at + 63 ≤ length (now out)) ⌝ }
     ensures { λ r. ⌜ Tries (not (uncoded (todayWith (now (kanji .entry))) (now (label .entry)))) (asciiLabel (todayWith (now (kanji .entry))) (now (label .entry))) (now (out .entry)) (now (out .exit)) at r ⌝ }
 {
-    if any_japanese(kanji, label) {
+    if any_wide(label) {
         return put_coded(label, out, at);
     }
     Put {

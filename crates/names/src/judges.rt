@@ -9,11 +9,14 @@ use crate::middles::is_prefecture;
 use rules::Class;
 use rules::Verdict;
 ghost use mathlib.Core.Path.{_≡_};
+ghost use mathlib.Core.Bool.{true, false};
 ghost use mathlib.Core.List.{_∷_, []};
 ghost use Prim.Native.Nat.{_≤_};
 ghost use lib.ListN.{length};
+ghost use Rattle.lists.specs.Tests.{allOf, anyOf};
 ghost use Rattle.rules.specs.Labels.{labels};
-ghost use Rattle.rules.specs.Rules.{accepted};
+ghost use Rattle.rules.specs.Permits.{labelChar};
+ghost use Rattle.rules.specs.Rules.{accepted, unfit};
 ghost use Rattle.rules.specs.Editions.{today, todayWith};
 ghost use Rattle.names.specs.Calls.{judged};
 ghost use Rattle.names.specs.Steps.{refusal, byLabels, Judges};
@@ -40,6 +43,7 @@ fn accepted(class: Class) -> Verdict
 
 // The rules of two labels, 6 to 11.
 fn two_labels(kanji: &[u32], left: &[u32], last: &[u32]) -> Verdict
+    requires { ⌜ allOf (labelChar (todayWith (now kanji))) (now left) ≡ true ⌝ }
     ensures { λ r. ⌜ r ≡ byLabels (todayWith (now (kanji .entry))) (now (left .entry) ∷ now (last .entry) ∷ []) ⌝ }
 {
     if left.len() == 0 {
@@ -60,6 +64,7 @@ fn two_labels(kanji: &[u32], left: &[u32], last: &[u32]) -> Verdict
 
 // The rules of three labels, 6 to 12.
 fn three_labels(kanji: &[u32], left: &[u32], middle: &[u32], last: &[u32]) -> Verdict
+    requires { ⌜ allOf (labelChar (todayWith (now kanji))) (now left) ≡ true ⌝ }
     ensures { λ r. ⌜ r ≡ byLabels (todayWith (now (kanji .entry))) (now (left .entry) ∷ now (middle .entry) ∷ now (last .entry) ∷ []) ⌝ }
 {
     if left.len() == 0 {
@@ -87,6 +92,7 @@ fn three_labels(kanji: &[u32], left: &[u32], middle: &[u32], last: &[u32]) -> Ve
 
 // The rules of a form whose characters are fit, 5 to 12.
 fn name_rules(kanji: &[u32], form: &[u32]) -> Verdict
+    requires { ⌜ anyOf (unfit (todayWith (now kanji))) (now form) ≡ false ⌝ }
     ensures { λ r. ⌜ r ≡ byLabels (todayWith (now (kanji .entry))) (labels (now (form .entry))) ⌝ }
 {
     let n = form.len();

@@ -1,6 +1,6 @@
 -- `judge_into` meets its contract: 2 and 3 are the normal form call's, 4 is the first unfit character's, and the rest the labels'.
 -- Assumes nothing.
-use Rattle.names.proofs.Judging.{judges-sizes, in-buffer, judges-unfit, judges-fit}
+use Rattle.names.proofs.Judging.{judges-sizes, in-buffer, judges-unfit, form-fit, judges-fit}
 use native.Mathlib.Omega.{arith}
 use borrow.Author.Needs.{needs}
 use Rattle.names.proofs.judges.judge_into.Statement.{statement}
@@ -46,7 +46,7 @@ part-name-rules-end : tie.Need-part-name-rules-end
 part-name-rules-end c = let h = in-buffer (c .before .before .before .before .before .before .before .before .before .before .before .before .before .before .pre) (c .before .before .before .before .before .before .before .before .before .normal-form .ensures) (c .before .before .before .before .before .if1 .left) in omega (arith, c .before .before .before .before .before .before .before .before .before .normal-form .kept .1 .0, c .before .before .before .before .before .before .before .before .before .before .before .before .before .before .pre)
 
 name-rules-requires : tie.Need-name-rules-requires
-name-rules-requires c κs = search needs
+name-rules-requires c κs = form-fit _ (c .before .before .before .before .before .before .before .before .before .before .before .before .before .before .before .pre) (c .before .before .before .before .before .before .before .before .before .before .normal-form .ensures) (c .before .before .before .before .before .before .if1 .left) (c .before .before .before .first-unfit .ensures) (c .before .before .if2 .left)
 
 same-length-3 : tie.Need-same-length-3
 same-length-3 c = search needs
