@@ -4,11 +4,12 @@
 use mathlib.Core.Path.{_≡_, refl, sym, ap, _∙_}
 use mathlib.Core.Bool.{true, false}
 use mathlib.Core.List.{List, map}
-use Prim.Native.Nat.{ℕ, _+_, _-_, _%_, _≤_}
+use mathlib.Core.Logic.{⊎-elim}
+use Prim.Native.Nat.{ℕ, _+_, _-_, _%_, _≤_, _<_}
 use native.Mathlib.Omega.{arith}
 use lib.ListN.{getD, List·getD-map}
 use Rattle.lists.specs.Tests.{within, allOf}
-use Rattle.lists.proofs.Laws.{inside, in-range, outside}
+use Rattle.lists.proofs.Laws.{inside, in-range, outside, lt-or-le}
 use Rattle.characters.specs.declared.Replacement.{Replacement}
 use Rattle.characters.specs.declared.Replacement.the-variants.{Letter, Digit, Hyphen, Separator, HalfKana, Mark, Other}
 use Rattle.characters.specs.Replace.{Range, range, ranges, rangeIn, classOf, halfKana, isHalf, replaceIn, replace}
@@ -112,6 +113,14 @@ half-entry k = sym (List·getD-map replace halfKana k 0) ∙ ap (λ (l : List �
 
 in-region : (lo hi c : ℕ) → settled lo hi ranges ≡ true → lo ≤ c → c ≤ hi → replace c ≡ byClass (classOf lo) c
 in-region lo hi c t l h = by-class c (classOf lo) (sym (class-in lo hi c t l h))
+
+-- from 3003 to FF0C each stays, the marks too
+pub stays : (c : ℕ) → 0x3003 ≤ c → c ≤ 0xFF0C → c ≡ replace c
+unfolding within allOf ranges rangeIn classOf
+stays c l h =
+    ⊎-elim (λ a. sym (in-region 0x3003 0x309A c refl l (omega arith)))
+    (λ a. ⊎-elim (λ b. sym (in-region 0x309B 0x309C c refl a (omega arith))) (λ b. sym (in-region 0x309D 0xFF0C c refl b h)) (lt-or-le c 0x309D))
+    (lt-or-le c 0x309B)
 
 module _ (c : ℕ) where
   pub twice : replace (replace c) ≡ replace c

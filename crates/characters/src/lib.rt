@@ -199,8 +199,8 @@ fn half_at(i: usize) -> u32
     HALF[i]
 }
 
-// What replaces a code point. The ranges of letters start at 1 modulo 32, those of digits at 0 modulo 16.
-pub fn replaced(c: u32) -> u32
+// What replaces a code point, by its class. The ranges of letters start at 1 modulo 32, those of digits at 0 modulo 16.
+fn replaced_by_class(c: u32) -> u32
     ensures { λ r. ⌜ r ≡ replace c ⌝ }
 {
     let class = class_of(c);
@@ -213,6 +213,19 @@ pub fn replaced(c: u32) -> u32
         Replacement::Mark => c,
         Replacement::Other => c,
     }
+}
+
+// What replaces a code point. From 3003 to FF0C, where the kana and the kanji are, each stays.
+pub fn replaced(c: u32) -> u32
+    ensures { λ r. ⌜ r ≡ replace c ⌝ }
+{
+    if c < 0x3003 {
+        return replaced_by_class(c);
+    }
+    if c <= 0xFF0C {
+        return c;
+    }
+    replaced_by_class(c)
 }
 
 const VOICED: [u32; 20] = [

@@ -1,5 +1,5 @@
 -- What a call that writes answers: the rows that the judge passed over are the rules, so an accepted name has its normal form in the
--- judge's array, and a refused one leaves the buffer.
+-- lent buffer, and a refused one leaves the buffer.
 -- Assumes nothing.
 use mathlib.Core.Path.{_≡_, refl, sym, ap, _∙_}
 use mathlib.Core.Bool.{true, false}
@@ -22,11 +22,10 @@ use Rattle.rules.specs.Permits.{Permits}
 use Rattle.rules.specs.Rules.{labelRows, nameRows, textRows, classOf, verdict, rules}
 use Rattle.rules.specs.declared.Class.{Class}
 use Rattle.rules.proofs.Steps.{refused-before}
-use Rattle.names.specs.Calls.{judged, checked, Answers, checkRows, Checks, uncoded, asciiForm, asciiRows, AsciiForms}
-use Rattle.names.specs.Steps.{refusedCall, acceptedCall}
-use Rattle.names.specs.declared.Judged.{Judged}
+use Rattle.names.specs.Calls.{checked, Answers, checkRows, Checks, uncoded, asciiForm, asciiRows, AsciiForms}
+use Rattle.names.specs.Steps.{refusedCall, Judges}
 use Rattle.names.specs.declared.Checked.{Checked}
-use Rattle.names.proofs.Judging.{shown-whole, unpadded}
+use Rattle.names.proofs.Judging.{shown-whole, fronted}
 
 -- ---- any call that writes
 
@@ -38,10 +37,10 @@ module _ (rows : List Row) (text xs before : List ℕ) where
       let none = given-none (record { number = n; place = p }) xs h in
       record { result = q ∙ rw (e, none, ne-eqb n 0 h); buffer = rw (e, none) (sym (untouched before)) }
 
-  answers-yes : {k : Class} {n : ℕ} {after : List ℕ} {r : Checked} → r ≡ acceptedCall k n → first rows ≡ record { number = 0; place = 0 }
-      → k ≡ classOf (labels (normalForm text)) → n ≡ length xs → after ≡ written xs before → Answers rows text xs before after r
+  answers-yes : {k : Class} {n : ℕ} {after : List ℕ} → first rows ≡ record { number = 0; place = 0 } → k ≡ classOf (labels (normalForm text))
+      → n ≡ length xs → after ≡ written xs before → Answers rows text xs before after (record { number = 0; place = 0; class = k; length = n })
   unfolding checked verdict given
-  answers-yes z e p q w = record { result = z ∙ rw (e, p, q); buffer = rw e w }
+  answers-yes e p q w = record { result = rw (e, p, q); buffer = rw e w }
 
 -- ---- an accepted name
 
@@ -49,38 +48,38 @@ pub cleared : (P : Permits) (text : List ℕ) → first (textRows P text) .numbe
 unfolding refusing allOf textRows nameRows labelRows
 cleared P text e = accepted-clear (textRows P text) refl e
 
-pub record Passed (P : Permits) (text : List ℕ) (j : Judged) : Type 0 where
+pub record Passed (P : Permits) (text after : List ℕ) (j : Checked) : Type 0 where
   pub clear : Clear (textRows P text)
   pub class : j .class ≡ classOf (labels (normalForm text))
-  pub form : take (j .length - 0) (drop 0 (j .form)) ≡ normalForm text
+  pub form : take (j .length - 0) (drop 0 after) ≡ normalForm text
   pub size : j .length ≡ length (normalForm text)
-  pub in-array : j .length ≤ 256
+  pub few : j .length ≤ 256
 
-module _ (P : Permits) (text : List ℕ) {j : Judged} (e : j ≡ judged P text) where
+module _ (P : Permits) (text : List ℕ) {lent after : List ℕ} {j : Checked} (e : Judges P text lent after j) where
   number-is : j .number ≡ first (textRows P text) .number
-  unfolding judged rules verdict
-  number-is = ap (λ (x : Judged). x .number) e
+  unfolding rules verdict
+  number-is = ap (λ (x : Checked). x .number) (e .result)
 
   place-is : j .place ≡ first (textRows P text) .place
-  unfolding judged rules verdict
-  place-is = ap (λ (x : Judged). x .place) e
+  unfolding rules verdict
+  place-is = ap (λ (x : Checked). x .place) (e .result)
 
   answer-is : first (textRows P text) ≡ record { number = j .number; place = j .place }
   answer-is = rw (number-is, place-is)
 
-  pub passed : j .number ≡ 0 → Passed P text j
-  unfolding judged rules verdict textRows
+  pub passed : j .number ≡ 0 → Passed P text after j
+  unfolding rules verdict textRows
   passed z =
       let all = cleared P text (sym number-is ∙ z) in
       let few : length text ≤ 256 = ltb-false 256 (length text) (all .1 .0) in
       let shows = shown-whole text few in
-      let size : j .length ≡ length (normalForm text) = ap (λ (x : Judged). x .length) e ∙ ap length shows in
+      let size : j .length ≡ length (normalForm text) = ap (λ (x : Checked). x .length) (e .result) ∙ ap length shows in
       record {
         clear = all;
-        class = ap (λ (x : Judged). x .class) e ∙ rw (sym number-is ∙ z);
-        form = rw (size, ap (λ (x : Judged). x .form) e, shows) (unpadded (normalForm text));
+        class = ap (λ (x : Checked). x .class) (e .result) ∙ rw (sym number-is ∙ z);
+        form = rw (size, e .buffer, shows) (fronted (normalForm text) lent);
         size = size;
-        in-array = omega (arith, no-longer text);
+        few = omega (arith, no-longer text);
       }
 
 -- ---- the check
@@ -90,7 +89,7 @@ module _ (P : Permits) (text before : List ℕ) where
   unfolding checkRows
   check-no-room q h = answers-no _ text _ before q (hit 1 (ltb (length before) 256) 0 _ (lt-ltb (length before) 256 h)) (λ z. omega arith)
 
-  module _ (h : 256 ≤ length before) {j : Judged} (e : j ≡ judged P text) where
+  module _ (h : 256 ≤ length before) {lent form : List ℕ} {j : Checked} (e : Judges P text lent form j) where
     checking : first (checkRows P text (length before)) ≡ first (textRows P text)
     unfolding checkRows
     checking = passed-over 1 (ltb (length before) 256) 0 _ (le-ltb (length before) 256 h)
@@ -98,12 +97,13 @@ module _ (P : Permits) (text before : List ℕ) where
     pub check-refused : {r : Checked} → r ≡ refusedCall (j .number) (j .place) → (j .number ≡ 0 → ⊥) → Checks P text before before r
     check-refused q n = answers-no _ text _ before q (checking ∙ answer-is P text e) n
 
-    pub check-accepted : {after : List ℕ} {r : Checked} → r ≡ acceptedCall (j .class) (j .length) → j .number ≡ 0
-        → after ≡ written (take (length before) (take (j .length - 0) (drop 0 (j .form)))) before → Checks P text before after r
-    check-accepted q z w =
+    pub check-accepted : {after : List ℕ} (z : j .number ≡ 0)
+        → after ≡ written (take (length before) (take (j .length - 0) (drop 0 form))) before
+        → Checks P text before after (record { number = 0; place = 0; class = j .class; length = j .length })
+    check-accepted z w =
         let p = passed P text e z in
-        let all : take (length before) (normalForm text) ≡ normalForm text = take-all (length before) (normalForm text) (omega (arith, p .size, p .in-array)) in
-        answers-yes _ text _ before q (checking ∙ clear (textRows P text) (p .clear)) (p .class) (p .size) (w ∙ rw (p .form, all))
+        let all : take (length before) (normalForm text) ≡ normalForm text = take-all (length before) (normalForm text) (omega (arith, p .size, p .few)) in
+        answers-yes _ text _ before (checking ∙ clear (textRows P text) (p .clear)) (p .class) (p .size) (w ∙ rw (p .form, all))
 
 -- ---- the whole ASCII form
 
@@ -112,7 +112,7 @@ module _ (P : Permits) (text before : List ℕ) where
   unfolding asciiRows
   ascii-no-room q h = answers-no _ text _ before q (hit 1 (ltb (length before) 192) 0 _ (lt-ltb (length before) 192 h)) (λ z. omega arith)
 
-  module _ (h : 192 ≤ length before) {j : Judged} (e : j ≡ judged P text) where
+  module _ (h : 192 ≤ length before) {lent form : List ℕ} {j : Checked} (e : Judges P text lent form j) where
     encoding : first (asciiRows P text (length before)) ≡ first (textRows P text ++ row 14 (anyOf (uncoded P) (labels (normalForm text))) 0 ∷ [])
     unfolding asciiRows
     encoding = passed-over 1 (ltb (length before) 192) 0 _ (le-ltb (length before) 192 h)
@@ -122,14 +122,15 @@ module _ (P : Permits) (text before : List ℕ) where
         answers-no _ text _ before q
         (encoding ∙ refused-before (textRows P text) _ (λ z. n (number-is P text e ∙ z)) ∙ answer-is P text e) n
 
-    module _ (p : Passed P text j) where
+    module _ (p : Passed P text form j) where
       judged-on : first (asciiRows P text (length before)) ≡ first (row 14 (anyOf (uncoded P) (labels (normalForm text))) 0 ∷ [])
       judged-on = encoding ∙ clear-before (textRows P text) _ (p .clear)
 
       pub ascii-uncoded : {r : Checked} → r ≡ refusedCall 14 0 → anyOf (uncoded P) (labels (normalForm text)) ≡ true → AsciiForms P text before before r
       ascii-uncoded z q = answers-no _ text _ before z (judged-on ∙ hit 14 (anyOf (uncoded P) (labels (normalForm text))) 0 [] q) (λ z. omega arith)
 
-      pub ascii-accepted : {n : ℕ} {after : List ℕ} {r : Checked} → r ≡ acceptedCall (j .class) n → anyOf (uncoded P) (labels (normalForm text)) ≡ false
-          → n ≡ length (asciiForm P (normalForm text)) → after ≡ written (asciiForm P (normalForm text)) before → AsciiForms P text before after r
-      ascii-accepted z q s w =
-          answers-yes _ text _ before z (judged-on ∙ clear (row 14 (anyOf (uncoded P) (labels (normalForm text))) 0 ∷ []) (q, tt)) (p .class) s w
+      pub ascii-accepted : {n : ℕ} {after : List ℕ} → anyOf (uncoded P) (labels (normalForm text)) ≡ false → n ≡ length (asciiForm P (normalForm text))
+          → after ≡ written (asciiForm P (normalForm text)) before
+          → AsciiForms P text before after (record { number = 0; place = 0; class = j .class; length = n })
+      ascii-accepted q s w =
+          answers-yes _ text _ before (judged-on ∙ clear (row 14 (anyOf (uncoded P) (labels (normalForm text))) 0 ∷ []) (q, tt)) (p .class) s w

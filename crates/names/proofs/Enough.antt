@@ -9,7 +9,7 @@ use native.Mathlib.Omega.{arith}
 use lib.Dec.{leb}
 use lib.ListN.{length, take, drop, length-append}
 use lib.Seq.{take-at, take-all}
-use borrow.Author.Tests.{ne-eqb, le-leb, lt-ltb, ltb-false, not-true, not-false}
+use borrow.Author.Tests.{ne-eqb, le-leb, ltb-false, not-true, not-false}
 use Rattle.lists.specs.Tests.{allOf, anyOf, same}
 use Rattle.lists.specs.Front.{written}
 use Rattle.lists.proofs.Laws.{both, or-right, clash, same-is}
@@ -19,16 +19,15 @@ use Rattle.rules.specs.Labels.{labels}
 use Rattle.rules.specs.Permits.{Permits, labelChar}
 use Rattle.rules.specs.Rules.{isJapanese, long, jp, labelRows, nameRows, textRows}
 use Rattle.rules.specs.Editions.{isPrefecture, today, todayWith}
-use Rattle.rules.proofs.Views.{and-false, all-but}
+use Rattle.rules.proofs.Views.{and-false}
 use Rattle.rules.proofs.Cuts.{labels-fit}
-use Rattle.rules.proofs.Sound.{ascii-range}
 use Rattle.rules.proofs.Today.{today-laws}
-use Rattle.names.specs.Calls.{judged, asciiForm, uncoded, AsciiForms}
-use Rattle.names.specs.Steps.{octet, writable, Writable, Tries, refusedCall, acceptedCall}
-use Rattle.names.specs.declared.Judged.{Judged}
+use Rattle.names.specs.Calls.{asciiForm, uncoded, AsciiForms}
+use Rattle.names.specs.Steps.{octet, writable, Writable, Tries, refusedCall, Judges}
 use Rattle.names.specs.declared.Checked.{Checked}
 use Rattle.names.specs.declared.ascii.Put.{Put}
 use Rattle.names.proofs.Answering.{passed, ascii-uncoded, ascii-accepted}
+use Rattle.names.proofs.OfLabel.{ascii-octets}
 
 -- ---- a law of each label of an accepted name
 
@@ -61,15 +60,12 @@ module _ (P : Permits) (f : List ℕ → Bool) (left : (l : List ℕ) → allOf 
 -- ---- of at most 63 characters where it is not coded
 
 label-writable : (P : Permits) (l : List ℕ) → allOf (labelChar P) l ≡ true → (isJapanese P l ≡ false → length l ≤ 63) → writable P l ≡ true
-unfolding writable isJapanese labelChar octet
-label-writable P l a k = go (anyOf (P .japanese) l) refl
+unfolding writable
+label-writable P l a k = go (isJapanese P l) refl
   where
-    in-octet : (c : ℕ) → labelChar P c ≡ true → P .japanese c ≡ false → octet c ≡ true
-    in-octet c e p = lt-ltb c 0x100 (let h = ascii-range c (rw p at e) in omega arith)
-
-    go : (j : Bool) → anyOf (P .japanese) l ≡ j → anyOf (P .japanese) l || (leb (length l) 63 && allOf octet l) ≡ true
+    go : (j : Bool) → isJapanese P l ≡ j → isJapanese P l || (leb (length l) 63 && allOf octet l) ≡ true
     go true p = rw p
-    go false p = rw (p, le-leb (length l) 63 (k p), all-but (labelChar P) (P .japanese) octet in-octet l a p)
+    go false p = rw (p, le-leb (length l) 63 (k p), ascii-octets P l a p)
 
 left-size : (P : Permits) (l : List ℕ) → long P l ≡ false → isJapanese P l ≡ false → length l ≤ 63
 unfolding long
@@ -84,8 +80,8 @@ jp-writable : (P : Permits) → writable P jp ≡ true
 unfolding writable jp allOf octet
 jp-writable P = or-right (isJapanese P (0x6A ∷ 0x70 ∷ [])) true refl
 
-pub ready : (table text : List ℕ) {j : Judged} → j ≡ judged (todayWith table) text → j .number ≡ 0
-    → Writable (todayWith table) (take (j .length - 0) (drop 0 (j .form))) 192
+pub ready : (table text : List ℕ) {lent after : List ℕ} {j : Checked} → Judges (todayWith table) text lent after j → j .number ≡ 0
+    → Writable (todayWith table) (take (j .length - 0) (drop 0 after)) 192
 unfolding todayWith
 ready table text e z =
     let P = todayWith table in
@@ -96,8 +92,8 @@ ready table text e z =
 
 -- ---- what is put is the form
 
-module _ (P : Permits) (text : List ℕ) {j : Judged} (e : j ≡ judged P text) (z : j .number ≡ 0) {zeros last : List ℕ} {r : Put}
-    (t : Tries (not (anyOf (uncoded P) (labels (take (j .length - 0) (drop 0 (j .form)))))) (asciiForm P (take (j .length - 0) (drop 0 (j .form)))) zeros last 0 r) where
+module _ (P : Permits) (text : List ℕ) {lent form : List ℕ} {j : Checked} (e : Judges P text lent form j) (z : j .number ≡ 0) {zeros last : List ℕ} {r : Put}
+    (t : Tries (not (anyOf (uncoded P) (labels (take (j .length - 0) (drop 0 form))))) (asciiForm P (take (j .length - 0) (drop 0 form))) zeros last 0 r) where
   tries : Tries (not (anyOf (uncoded P) (labels (normalForm text)))) (asciiForm P (normalForm text)) zeros last 0 r
   tries = rw (passed P text e z .form) at t
 
@@ -121,13 +117,13 @@ module _ (P : Permits) (text : List ℕ) {j : Judged} (e : j ≡ judged P text) 
     stopped q n =
         ascii-uncoded P text before h e (passed P text e z) q (not-false (anyOf (uncoded P) (labels (normalForm text))) (sym (tries .coded) ∙ n))
 
-    pub finished : {after : List ℕ} {n : ℕ} {a : Checked} → a ≡ acceptedCall (j .class) (r .at) → r .coded ≡ true
-        → n ≡ length (take (r .at - 0) (drop 0 last)) → after ≡ take n (take (r .at - 0) (drop 0 last)) ++ drop n before
-        → AsciiForms P text before after a
+    pub finished : {after : List ℕ} {n : ℕ} → r .coded ≡ true → n ≡ length (take (r .at - 0) (drop 0 last))
+        → after ≡ take n (take (r .at - 0) (drop 0 last)) ++ drop n before
+        → AsciiForms P text before after (record { number = 0; place = 0; class = j .class; length = r .at })
     unfolding written
-    finished {after} {n} q y m w =
+    finished {after} {n} y m w =
         let k : n ≡ length (asciiForm P (normalForm text)) = m ∙ ap length (piece y) in
         let all : take (length (asciiForm P (normalForm text))) (asciiForm P (normalForm text)) ≡ asciiForm P (normalForm text) =
         take-all (length (asciiForm P (normalForm text))) (asciiForm P (normalForm text)) (omega arith) in
-        ascii-accepted P text before h e (passed P text e z) q (not-true (anyOf (uncoded P) (labels (normalForm text))) (sym (tries .coded) ∙ y)) (place-is y)
+        ascii-accepted P text before h e (passed P text e z) (not-true (anyOf (uncoded P) (labels (normalForm text))) (sym (tries .coded) ∙ y)) (place-is y)
         (w ∙ rw (piece y, k, all))

@@ -21,10 +21,12 @@ use Rattle.punycode.specs.declared.Coded.{Coded}
 use Rattle.rules.specs.Labels.{period, labels, join}
 use Rattle.rules.specs.Permits.{Permits}
 use Rattle.rules.specs.Rules.{isJapanese}
+use Rattle.rules.specs.Editions.{todayWith}
 use Rattle.rules.proofs.Cuts.{Labelled, none, cut, held, labelled, ended, last-from, first-from}
 use Rattle.names.specs.Calls.{asciiLabel, asciiForm, uncoded}
-use Rattle.names.specs.Steps.{octet, writable, Writable, Puts, Tries}
+use Rattle.names.specs.Steps.{octet, wide, writable, Writable, Puts, Tries}
 use Rattle.names.specs.declared.ascii.Put.{Put}
+use Rattle.names.proofs.OfLabel.{wide-is}
 
 -- ---- pieces
 
@@ -139,6 +141,9 @@ module _ (P : Permits) (l : List ℕ) {j : Bool} (e : j ≡ isJapanese P l) wher
     plain-fits w =
         let b = both (leb (length l) 63) (allOf octet l) (rw (← e, p) at w) in
         (b .1, leb-true (length l) 63 (b .0))
+
+pub wide-writable : (table l : List ℕ) {b : Bool} → b ≡ anyOf wide l → writable (todayWith table) l ≡ true → b ≡ isJapanese (todayWith table) l
+wide-writable table l e w = wide-is table l e (λ p. plain-fits (todayWith table) l refl p w .0)
 
 -- at most 63 octets
 label-size : (P : Permits) (l : List ℕ) → writable P l ≡ true → uncoded P l ≡ false → length (asciiLabel P l) ≤ 63

@@ -8,10 +8,10 @@ use mathlib.Core.Logic.{_⊎_, inl, inr}
 use Prim.Native.Nat.{ℕ, zero, suc, _-_, _≤_, _<_}
 use native.Mathlib.Omega.{arith}
 use lib.ListN.{length, take, drop, getD, replicate}
-use lib.Seq.{take-at}
 use borrow.Author.Tests.{lt-ltb, le-ltb}
 use Rattle.lists.specs.Tests.{pick, anyOf, firstOf}
 use Rattle.lists.specs.Front.{written}
+use Rattle.lists.proofs.Fronts.{untouched, front}
 use Rattle.lists.proofs.Laws.{lt-or-le}
 use Rattle.normal.specs.Normal.{normalForm, places}
 use Rattle.normal.specs.Calls.{Normalises}
@@ -26,7 +26,8 @@ use Rattle.rules.specs.declared.Class.the-variants.{None}
 use Rattle.rules.specs.declared.Verdict.{Verdict}
 use Rattle.rules.proofs.Steps.{text-2, text-3, text-4, text-on}
 use Rattle.names.specs.Calls.{shown, padded, judged}
-use Rattle.names.specs.Steps.{byLabels}
+use Rattle.names.specs.Steps.{byLabels, Judges}
+use Rattle.names.specs.declared.Checked.{Checked}
 use Rattle.names.specs.declared.Judged.{Judged}
 
 -- ---- where a test first holds, it holds of some entry
@@ -61,12 +62,14 @@ padded-is : (xs : List ℕ) → written xs (replicate 256 0) ≡ padded xs
 unfolding written padded
 padded-is xs = ap (λ (l : List ℕ). xs ++ l) (drop-zeros (length xs) 256)
 
--- what the array holds before its zeros
-pub unpadded : (xs : List ℕ) → take (length xs - 0) (drop 0 (padded xs)) ≡ xs
-unfolding padded
-unpadded xs =
-    let e : length xs - 0 ≡ length xs = omega arith in
-    rw e (take-at xs (replicate (256 - length xs) 0) (length xs) refl)
+pub as-judged : (P : Permits) (text : List ℕ) {after : List ℕ} {r : Checked} → Judges P text (replicate 256 0) after r
+    → _≡_ {A = Judged} (record { number = r .number; place = r .place; class = r .class; form = after; length = r .length }) (judged P text)
+unfolding judged
+as-judged P text j = rw (j .result, j .buffer, padded-is (shown text))
+
+-- what a buffer holds at its start
+pub fronted : (xs before : List ℕ) → take (length xs - 0) (drop 0 (written xs before)) ≡ xs
+fronted xs before = let e : length xs - 0 ≡ length xs = omega arith in rw e (front xs before)
 
 -- ---- the normal form call, given room, goes one of three ways
 
@@ -107,60 +110,66 @@ shown-whole text h = rw (le-ltb 256 (length text) h)
 
 -- ---- the judge
 
-judged-as : (P : Permits) (text : List ℕ) {v : Verdict} {xs : List ℕ} → rules P text ≡ v → shown text ≡ xs
-    → judged P text ≡ record { number = v .number; place = v .place; class = v .class; form = padded xs; length = length xs }
-unfolding judged
-judged-as P text e f = rw (e, f)
+module _ (P : Permits) (text before : List ℕ) {after : List ℕ} where
+  judges-as : {v : Verdict} {xs : List ℕ} → rules P text ≡ v → shown text ≡ xs → after ≡ written xs before
+      → Judges P text before after (record { number = v .number; place = v .place; class = v .class; length = length xs })
+  judges-as e f w = record { result = rw (e, f); buffer = rw f w }
+
+  judges-none : {v : Verdict} → rules P text ≡ v → shown text ≡ [] → after ≡ before
+      → Judges P text before after (record { number = v .number; place = v .place; class = v .class; length = 0 })
+  judges-none e f w = judges-as e f (w ∙ sym (untouched before))
 
 -- where neither 2 nor 3 applies, the buffer holds the normal form
-module _ {text after : List ℕ} {r : Normal} (n : Normalises text (replicate 256 0) after r) (z : r .number ≡ 0) where
-  formed : (length text ≡ 0 → ⊥) × (length text ≤ 256) × (r .length ≡ length (normalForm text)) × (after ≡ padded (normalForm text))
-  formed = go (way (omega arith) n)
+module _ {text before after : List ℕ} {r : Normal} (room : 256 ≤ length before) (n : Normalises text before after r) (z : r .number ≡ 0) where
+  formed : (length text ≡ 0 → ⊥) × (length text ≤ 256) × (r .length ≡ length (normalForm text)) × (after ≡ written (normalForm text) before)
+  formed = go (way room n)
     where
-      go : Way text (replicate 256 0) after r
-          → (length text ≡ 0 → ⊥) × (length text ≤ 256) × (r .length ≡ length (normalForm text)) × (after ≡ padded (normalForm text))
+      go : Way text before after r
+          → (length text ≡ 0 → ⊥) × (length text ≤ 256) × (r .length ≡ length (normalForm text)) × (after ≡ written (normalForm text) before)
       go (no-text e p q) = absurd (omega (arith, ap (λ (x : Normal). x .number) p))
       go (over s g p q) = absurd (omega (arith, ap (λ (x : Normal). x .number) p))
-      go (whole s g p q) = (s, g, ap (λ (x : Normal). x .length) p, q ∙ padded-is (normalForm text))
+      go (whole s g p q) = (s, g, ap (λ (x : Normal). x .length) p, q)
 
-  pub in-array : r .length ≤ 256
-  in-array = let f = formed in omega (arith, f .1, f .2, no-longer text)
+  pub in-buffer : r .length ≤ 256
+  in-buffer = let f = formed in omega (arith, f .1, f .2, no-longer text)
 
   form-is : take (r .length - 0) (drop 0 after) ≡ normalForm text
-  form-is = let f = formed in rw (f .2, f .3) (unpadded (normalForm text))
+  form-is = let f = formed in rw (f .2, f .3) (fronted (normalForm text) before)
 
-module _ (P : Permits) {text after : List ℕ} {r : Normal} (n : Normalises text (replicate 256 0) after r) where
-  pub judged-sizes : (r .number ≡ 0 → ⊥)
-      → _≡_ {A = Judged} (record { number = r .number; place = r .place; class = None; form = after; length = r .length }) (judged P text)
-  unfolding padded
-  judged-sizes h = go (way (omega arith) n)
+module _ (P : Permits) {text before after : List ℕ} {r : Normal} (room : 256 ≤ length before) (n : Normalises text before after r) where
+  pub judges-sizes : (r .number ≡ 0 → ⊥) → Judges P text before after (record { number = r .number; place = r .place; class = None; length = r .length })
+  judges-sizes h = go (way room n)
     where
-      go : Way text (replicate 256 0) after r
-          → _≡_ {A = Judged} (record { number = r .number; place = r .place; class = None; form = after; length = r .length }) (judged P text)
-      go (no-text e p q) = rw (p, q) (sym (judged-as P text (text-2 P text e) (shown-none text e)))
-      go (over s g p q) = rw (p, q) (sym (judged-as P text (text-3 P text s g) (shown-over text g)))
+      go : Way text before after r → Judges P text before after (record { number = r .number; place = r .place; class = None; length = r .length })
+      go (no-text e p q) = rw p (judges-none P text before (text-2 P text e) (shown-none text e) q)
+      go (over s g p q) = rw p (judges-none P text before (text-3 P text s g) (shown-over text g) q)
       go (whole s g p q) = absurd (h (ap (λ (x : Normal). x .number) p))
 
   module _ (z : r .number ≡ 0) where
-    judged-whole : {v : Verdict} → rules P text ≡ v
-        → _≡_ {A = Judged} (record { number = v .number; place = v .place; class = v .class; form = after; length = r .length }) (judged P text)
-    judged-whole e = let f = formed n z in rw (f .2, f .3) (sym (judged-as P text e (shown-whole text (f .1))))
+    judges-whole : {v : Verdict} → rules P text ≡ v
+        → Judges P text before after (record { number = v .number; place = v .place; class = v .class; length = r .length })
+    judges-whole e = let f = formed room n z in rw (f .2) (judges-as P text before e (shown-whole text (f .1)) (f .3))
 
     module _ {k : ℕ} (e : k ≡ firstOf (unfit P) (take (r .length - 0) (drop 0 after))) where
       first-is : k ≡ firstOf (unfit P) (normalForm text)
-      first-is = e ∙ ap (firstOf (unfit P)) (form-is n z)
+      first-is = e ∙ ap (firstOf (unfit P)) (form-is room n z)
 
-      pub judged-unfit : {p : ℕ} → k < r .length → p ≡ getD (places text) k 0
-          → _≡_ {A = Judged} (record { number = 4; place = p; class = None; form = after; length = r .length }) (judged P text)
-      judged-unfit {p} h q =
-          let f = formed n z in
+      pub judges-unfit : {p : ℕ} → k < r .length → p ≡ getD (places text) k 0
+          → Judges P text before after (record { number = 4; place = p; class = None; length = r .length })
+      judges-unfit {p} h q =
+          let f = formed room n z in
           let some = found (unfit P) (normalForm text) (omega (arith, first-is, f .2)) in
           let at : p ≡ getD (places text) (firstOf (unfit P) (normalForm text)) 0 = q ∙ ap (λ (j : ℕ). getD (places text) j 0) first-is in
-          rw at (judged-whole (text-4 P text (f .0) (f .1) some))
+          rw at (judges-whole (text-4 P text (f .0) (f .1) some))
 
-      pub judged-fit : {v : Verdict} → r .length ≤ k → v ≡ byLabels P (labels (take (r .length - 0) (drop 0 after)))
-          → _≡_ {A = Judged} (record { number = v .number; place = v .place; class = v .class; form = after; length = r .length }) (judged P text)
-      judged-fit {v} h q =
-          let f = formed n z in
-          let none = not-found (unfit P) (normalForm text) (omega (arith, first-is, f .2)) in
-          judged-whole (text-on P text (f .0) (f .1) none ∙ ap (λ (l : List ℕ). byLabels P (labels l)) (sym (form-is n z)) ∙ sym q)
+      none-unfit : r .length ≤ k → anyOf (unfit P) (normalForm text) ≡ false
+      none-unfit h = let f = formed room n z in not-found (unfit P) (normalForm text) (omega (arith, first-is, f .2))
+
+      pub form-fit : r .length ≤ k → anyOf (unfit P) (take (r .length - 0) (drop 0 after)) ≡ false
+      form-fit h = rw (form-is room n z) (none-unfit h)
+
+      pub judges-fit : {v : Verdict} → r .length ≤ k → v ≡ byLabels P (labels (take (r .length - 0) (drop 0 after)))
+          → Judges P text before after (record { number = v .number; place = v .place; class = v .class; length = r .length })
+      judges-fit {v} h q =
+          let f = formed room n z in
+          judges-whole (text-on P text (f .0) (f .1) (none-unfit h) ∙ ap (λ (l : List ℕ). byLabels P (labels l)) (sym (form-is room n z)) ∙ sym q)

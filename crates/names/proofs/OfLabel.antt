@@ -3,33 +3,41 @@
 use mathlib.Core.Path.{_≡_, refl, sym, ap, _∙_}
 use mathlib.Core.Bool.{Bool, true, false, not, _&&_, _||_}
 use mathlib.Core.List.{List, [], _∷_}
-use Prim.Native.Nat.{ℕ, _-_}
+use Prim.Native.Nat.{ℕ, _-_, _≤_, _<_}
 use native.Mathlib.Omega.{arith}
 use lib.Dec.{eqb, ltb}
 use lib.ListN.{length, getD}
-use borrow.Author.Tests.{eq-eqb, ne-eqb, eqb-true, eqb-false}
-use Rattle.lists.specs.Tests.{pick, anyOf, elem}
+use borrow.Author.Tests.{eq-eqb, ne-eqb, eqb-true, eqb-false, lt-ltb, le-ltb, ltb-true}
+use Rattle.lists.specs.Tests.{pick, allOf, anyOf, elem}
 use Rattle.lists.specs.Rows.{Answer}
-use Rattle.lists.proofs.Laws.{or-left, or-right}
-use Rattle.characters.specs.Characters.{asciiSet, hyphen}
+use Rattle.lists.proofs.Laws.{or-left, or-right, in-range, all-none}
+use Rattle.characters.specs.Characters.{asciiSet, hyphen, japaneseWith}
+use Rattle.characters.proofs.Bounds.{with-bounds, with-below}
 use Rattle.rules.specs.Labels.{period}
 use Rattle.rules.specs.Permits.{Permits, labelChar}
 use Rattle.rules.specs.Rules.{unfit, middleDot, ordinary, isJapanese, beginsWithHyphen, endsWithHyphen, hyphenEdge, short, long, bareDot}
-use Rattle.rules.proofs.Views.{or-false, and-false}
+use Rattle.rules.specs.Editions.{todayWith}
+use Rattle.rules.proofs.Views.{or-false, and-false, all-but}
+use Rattle.rules.proofs.Sound.{ascii-range}
 use Rattle.rules.proofs.Steps.{edge-at, label-7, label-8, label-9, label-10, label-0}
-use Rattle.names.specs.Steps.{labelNumber}
+use Rattle.names.specs.Steps.{labelNumber, octet, wide}
 
 -- ---- one character
 
+module _ (table : List ℕ) (c : ℕ) where
+  pub in-ascii : {a : Bool} → c < 0x80 → a ≡ asciiSet c → a ≡ labelChar (todayWith table) c
+  unfolding labelChar todayWith
+  in-ascii h e = e ∙ rw (with-below table c (omega arith))
+
+  pub in-japanese : {j : Bool} → 0x80 ≤ c → j ≡ japaneseWith table c → j ≡ labelChar (todayWith table) c
+  unfolding labelChar todayWith
+  in-japanese {j} h e = e ∙ go (asciiSet c) refl
+    where
+      go : (a : Bool) → asciiSet c ≡ a → japaneseWith table c ≡ japaneseWith table c || asciiSet c
+      go true p = absurd (let r = ascii-range c p in omega arith)
+      go false p = rw p (sym (or-false (japaneseWith table c)))
+
 module _ (P : Permits) (c : ℕ) where
-  pub in-ascii : {a : Bool} → a ≡ asciiSet c → a ≡ true → true ≡ labelChar P c
-  unfolding labelChar
-  in-ascii e p = sym (or-right (P .japanese c) (asciiSet c) (sym e ∙ p))
-
-  pub in-japanese : {a j : Bool} → a ≡ asciiSet c → a ≡ false → j ≡ P .japanese c → j ≡ labelChar P c
-  unfolding labelChar
-  in-japanese e p q = q ∙ rw (← e, p) (sym (or-false (P .japanese c)))
-
   pub fit-period : c ≡ 0x2E → false ≡ unfit P c
   unfolding unfit period
   fit-period e = rw (eq-eqb c 0x2E e)
@@ -59,6 +67,46 @@ module _ (P : Permits) (c : ℕ) where
       go : (j : Bool) → j ≡ j && true
       go true = refl
       go false = refl
+
+-- ---- past FF: of characters that may stand in a label, the Japanese ones, all from 3005 on
+
+pub ascii-octets : (P : Permits) (l : List ℕ) → allOf (labelChar P) l ≡ true → isJapanese P l ≡ false → allOf octet l ≡ true
+unfolding isJapanese labelChar octet
+ascii-octets P l a p = all-but (labelChar P) (P .japanese) octet in-octet l a p
+  where
+    in-octet : (c : ℕ) → labelChar P c ≡ true → P .japanese c ≡ false → octet c ≡ true
+    in-octet c e p = lt-ltb c 0x100 (let h = ascii-range c (rw p at e) in omega arith)
+
+octet-narrow : (c : ℕ) → octet c ≡ true → wide c ≡ false
+unfolding octet wide
+octet-narrow c e = let h = ltb-true c 0x100 e in le-ltb 0xFF c (omega arith)
+
+module _ (table : List ℕ) where
+  japanese-wide : (c : ℕ) → todayWith table .japanese c ≡ true → wide c ≡ true
+  unfolding todayWith wide
+  japanese-wide c e = let r = in-range 0x3005 0x9FA0 c (with-bounds table c e) in lt-ltb 0xFF c (omega arith)
+
+  some-wide : (l : List ℕ) → anyOf (todayWith table .japanese) l ≡ true → anyOf wide l ≡ true
+  unfolding anyOf
+  some-wide [] e = e
+  some-wide (x ∷ xs) e = go (todayWith table .japanese x) refl e (some-wide xs)
+    where
+      go : (b : Bool) → todayWith table .japanese x ≡ b → b || anyOf (todayWith table .japanese) xs ≡ true
+          → (anyOf (todayWith table .japanese) xs ≡ true → anyOf wide xs ≡ true) → wide x || anyOf wide xs ≡ true
+      go true p e on = or-left (wide x) (anyOf wide xs) (japanese-wide x p)
+      go false p e on = or-right (wide x) (anyOf wide xs) (on e)
+
+  module _ (l : List ℕ) {b : Bool} (e : b ≡ anyOf wide l) where
+    pub wide-is : (isJapanese (todayWith table) l ≡ false → allOf octet l ≡ true) → b ≡ isJapanese (todayWith table) l
+    unfolding isJapanese
+    wide-is k = e ∙ go (anyOf (todayWith table .japanese) l) refl
+      where
+        go : (j : Bool) → anyOf (todayWith table .japanese) l ≡ j → anyOf wide l ≡ j
+        go true p = some-wide l p
+        go false p = all-none octet wide octet-narrow l (k p)
+
+    pub wide-fit : allOf (labelChar (todayWith table)) l ≡ true → b ≡ isJapanese (todayWith table) l
+    wide-fit a = wide-is (ascii-octets (todayWith table) l a)
 
 -- ---- the middle dot
 

@@ -9,13 +9,15 @@ use lib.Dec.{eqb}
 use lib.ListN.{length, take, drop, length-drop}
 use lib.Seq.{take-all}
 use borrow.Author.Tests.{eq-eqb, ne-eqb}
-use Rattle.lists.specs.Tests.{anyOf, firstOf}
+use Rattle.lists.specs.Tests.{allOf, anyOf, firstOf}
+use Rattle.lists.proofs.Laws.{both}
 use Rattle.rules.specs.Labels.{period, labels}
-use Rattle.rules.specs.Permits.{Permits, isEmpty}
+use Rattle.rules.specs.Permits.{Permits, labelChar, isEmpty}
+use Rattle.rules.specs.Rules.{unfit}
 use Rattle.rules.specs.Editions.{isPrefecture, todayWith}
 use Rattle.rules.specs.declared.Verdict.{Verdict}
 use Rattle.rules.proofs.Views.{and-false}
-use Rattle.rules.proofs.Cuts.{Labelled, none, cut, held, labelled, ended, last-from, first-from}
+use Rattle.rules.proofs.Cuts.{Labelled, none, cut, held, labelled, labels-fit, ended, last-from, first-from}
 use Rattle.rules.proofs.Steps.{empty-is, name-5, name-6}
 use Rattle.names.specs.Steps.{byLabels, refusal}
 
@@ -85,6 +87,12 @@ module _ (P : Permits) (t : List ℕ) (a : ℕ) (sa : a ≡ 0 + firstOf period (
   one-label k =
       let e : labels t ≡ t ∷ [] = last-from t 0 a (omega arith) sa k in
       rw e (too-many P (t ∷ []) (λ x. omega arith) (λ x. omega arith))
+
+  pub left-fit : a < length t → anyOf (unfit P) t ≡ false → allOf (labelChar P) (take (a - 0) (drop 0 t)) ≡ true
+  unfolding allOf
+  left-fit ka u =
+      both (allOf (labelChar P) (take (a - 0) (drop 0 t))) _
+      (ap (allOf (allOf (labelChar P))) (sym (first-from t 0 a (omega arith) sa ka)) ∙ labels-fit P t u) .0
 
   module _ (ka : a < length t) (b : ℕ) (sb : b ≡ a + 1 + firstOf period (drop (a + 1) t)) where
     pub second-end : (a + 1 ≤ b) × (b ≤ length t)

@@ -6,13 +6,14 @@ use Prim.Native.Nat.{ℕ, _+_, _-_, _*_, _≤_}
 use lib.Dec.{leb, ltb}
 use lib.ListN.{length, take, drop}
 use Rattle.lists.specs.Tests.{allOf}
+use Rattle.lists.specs.Front.{written}
 use Rattle.lists.specs.Rows.{first}
 use Rattle.rules.specs.Labels.{labels}
 use Rattle.rules.specs.Permits.{Permits}
-use Rattle.rules.specs.Rules.{isJapanese, labelRows, nameRows, verdict}
-use Rattle.rules.specs.declared.Class.{Class}
+use Rattle.rules.specs.Rules.{isJapanese, labelRows, nameRows, verdict, rules}
 use Rattle.rules.specs.declared.Class.the-variants.{None}
 use Rattle.rules.specs.declared.Verdict.{Verdict}
+use Rattle.names.specs.Calls.{shown}
 use Rattle.names.specs.declared.Checked.{Checked}
 use Rattle.names.specs.declared.ascii.Put.{Put}
 
@@ -30,8 +31,10 @@ refusal n p = record { number = n; place = p; class = None }
 abbrev pub refusedCall : ℕ → ℕ → Checked
 refusedCall n p = record { number = n; place = p; class = None; length = 0 }
 
-abbrev pub acceptedCall : Class → ℕ → Checked
-acceptedCall k n = record { number = 0; place = 0; class = k; length = n }
+-- what the rules say of a text, with the length of its normal form, which stands at the buffer's start
+pub record Judges (P : Permits) (text before after : List ℕ) (r : Checked) : Type 0 where
+  pub result : r ≡ record { number = rules P text .number; place = rules P text .place; class = rules P text .class; length = length (shown text) }
+  pub buffer : after ≡ written (shown text) before
 
 -- a table cut where each part starts, the last start being the end of the last part
 unfoldable pub parts : List ℕ → List ℕ → List (List ℕ)
@@ -49,6 +52,10 @@ inOrder n (a ∷ b ∷ ss) = leb a b && inOrder n (b ∷ ss)
 
 unfoldable pub octet : ℕ → Bool
 octet c = ltb c 0x100
+
+-- past what an octet holds
+unfoldable pub wide : ℕ → Bool
+wide c = ltb 0xFF c
 
 -- a label whose ASCII form has room in 63 octets, if the coder takes it
 unfoldable pub writable : Permits → List ℕ → Bool

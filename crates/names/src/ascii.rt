@@ -1,15 +1,10 @@
 // The whole ASCII form of a name: each Japanese label encoded, ASCII labels as they are, joined by periods. What the coder does
 // is known by its stated answers alone.
-use crate::ACCEPTED;
 use crate::Checked;
-use crate::NO_ROOM;
-use crate::OVER_63;
-use crate::checks::accepted;
 use crate::checks::refused;
-use crate::judges::judge_with;
-use crate::labels::any_japanese;
+use crate::judges::judge_into;
+use crate::labels::any_wide;
 use crate::labels::label_end;
-use crate::tables::table;
 ghost use mathlib.Core.Path.{_≡_};
 ghost use mathlib.Core.Bool.{true, not};
 ghost use Prim.Native.Nat.{_+_, _≤_};
@@ -63,7 +58,7 @@ fn put_label(kanji: &[u32], label: &[u32], out: &mut [u8], at: usize) -> Put
     requires { ⌜ (writable (todayWith (now kanji)) (now label) ≡ true) × (at + 63 ≤ length (now out)) ⌝ }
     ensures { λ r. ⌜ Tries (not (uncoded (todayWith (now (kanji .entry))) (now (label .entry)))) (asciiLabel (todayWith (now (kanji .entry))) (now (label .entry))) (now (out .entry)) (now (out .exit)) at r ⌝ }
 {
-    if any_japanese(kanji, label) {
+    if any_wide(label) {
         return put_coded(label, out, at);
     }
     Put {
@@ -89,7 +84,7 @@ fn put_labels(kanji: &[u32], form: &[u32], out: &mut [u8]) -> Put
         if end >= form.len() {
             return put;
         }
-        out[at] = b'.';
+        out[at] = 0x2E;
         at += 1;
         from = end + 1;
     }
@@ -99,30 +94,36 @@ pub fn to_ascii_with(kanji: &[u32], text: &[u32], out: &mut [u8]) -> Checked
     ensures { λ r. ⌜ AsciiForms (todayWith (now (kanji .entry))) (now (text .entry)) (now (out .entry)) (now (out .exit)) r ⌝ }
 {
     if out.len() < 192 {
-        return refused(NO_ROOM, 0);
+        return refused(1, 0);
     }
-    let judged = judge_with(kanji, text);
-    if judged.number != ACCEPTED {
+    let mut form = [0u32; 256];
+    let judged = judge_into(kanji, text, &mut form);
+    if judged.number != 0 {
         return refused(judged.number, judged.place);
     }
     let n = judged.length;
-    let form: &[u32] = &judged.form;
+    let whole: &[u32] = &form;
     let mut ascii = [0u8; 192];
-    let put = put_labels(kanji, &form[0..n], &mut ascii);
+    let put = put_labels(kanji, &whole[0..n], &mut ascii);
     if !put.coded {
-        return refused(OVER_63, 0);
+        return refused(14, 0);
     }
     let length = put.at;
     let octets: &[u8] = &ascii;
     bytes::copy(&octets[0..length], out);
     let class = judged.class;
-    accepted(class, length)
+    Checked {
+        number: 0,
+        place: 0,
+        class,
+        length,
+    }
 }
 
 // The same by the kanji of this edition.
 pub fn to_ascii(text: &[u32], out: &mut [u8]) -> Checked
     ensures { λ r. ⌜ AsciiForms today (now (text .entry)) (now (out .entry)) (now (out .exit)) r ⌝ }
 {
-    let kanji = table();
+    let kanji = characters::KANJI;
     to_ascii_with(&kanji, text, out)
 }

@@ -1,14 +1,11 @@
 // The check: the judge, and with 0 the normal form is written.
-use crate::ACCEPTED;
 use crate::Checked;
-use crate::NO_ROOM;
-use crate::judges::judge_with;
-use crate::tables::table;
+use crate::judges::judge_into;
 use rules::Class;
 ghost use mathlib.Core.Path.{_≡_};
 ghost use Rattle.rules.specs.Editions.{today, todayWith};
 ghost use Rattle.names.specs.Calls.{Checks};
-ghost use Rattle.names.specs.Steps.{acceptedCall, refusedCall};
+ghost use Rattle.names.specs.Steps.{refusedCall};
 
 // A refusal: length 0, and nothing is written.
 pub fn refused(number: u8, place: usize) -> Checked
@@ -22,38 +19,33 @@ pub fn refused(number: u8, place: usize) -> Checked
     }
 }
 
-pub fn accepted(class: Class, length: usize) -> Checked
-    ensures { λ r. ⌜ r ≡ acceptedCall class length ⌝ }
+pub fn check_with(kanji: &[u32], text: &[u32], out: &mut [u32]) -> Checked
+    ensures { λ r. ⌜ Checks (todayWith (now (kanji .entry))) (now (text .entry)) (now (out .entry)) (now (out .exit)) r ⌝ }
 {
+    if out.len() < 256 {
+        return refused(1, 0);
+    }
+    let mut form = [0u32; 256];
+    let judged = judge_into(kanji, text, &mut form);
+    if judged.number != 0 {
+        return refused(judged.number, judged.place);
+    }
+    let length = judged.length;
+    let whole: &[u32] = &form;
+    lists::copy(&whole[0..length], out);
+    let class = judged.class;
     Checked {
-        number: ACCEPTED,
+        number: 0,
         place: 0,
         class,
         length,
     }
 }
 
-pub fn check_with(kanji: &[u32], text: &[u32], out: &mut [u32]) -> Checked
-    ensures { λ r. ⌜ Checks (todayWith (now (kanji .entry))) (now (text .entry)) (now (out .entry)) (now (out .exit)) r ⌝ }
-{
-    if out.len() < 256 {
-        return refused(NO_ROOM, 0);
-    }
-    let judged = judge_with(kanji, text);
-    if judged.number != ACCEPTED {
-        return refused(judged.number, judged.place);
-    }
-    let length = judged.length;
-    let form: &[u32] = &judged.form;
-    lists::copy(&form[0..length], out);
-    let class = judged.class;
-    accepted(class, length)
-}
-
 // The same by the kanji of this edition.
 pub fn check(text: &[u32], out: &mut [u32]) -> Checked
     ensures { λ r. ⌜ Checks today (now (text .entry)) (now (out .entry)) (now (out .exit)) r ⌝ }
 {
-    let kanji = table();
+    let kanji = characters::KANJI;
     check_with(&kanji, text, out)
 }

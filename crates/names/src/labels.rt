@@ -1,20 +1,15 @@
 // What is asked of one label, and of the characters of a form.
-use crate::ACCEPTED;
-use crate::BARE_DOT;
-use crate::HYPHEN_EDGE;
-use crate::TOO_LONG;
-use crate::TOO_SHORT;
 ghost use mathlib.Core.Path.{_≡_};
-ghost use mathlib.Core.Bool.{not, _&&_};
+ghost use mathlib.Core.Bool.{true, not, _&&_};
 ghost use Prim.Native.Nat.{_+_};
 ghost use lib.Dec.{ltb};
 ghost use lib.ListN.{drop};
-ghost use Rattle.lists.specs.Tests.{pick, firstOf, anyOf, same};
+ghost use Rattle.lists.specs.Tests.{pick, firstOf, allOf, anyOf, same};
 ghost use Rattle.rules.specs.Labels.{period};
 ghost use Rattle.rules.specs.Permits.{labelChar};
-ghost use Rattle.rules.specs.Rules.{unfit, ordinary, isJapanese, hyphenEdge, bareDot, jp};
+ghost use Rattle.rules.specs.Rules.{unfit, ordinary, hyphenEdge, bareDot, jp};
 ghost use Rattle.rules.specs.Editions.{todayWith};
-ghost use Rattle.names.specs.Steps.{labelNumber};
+ghost use Rattle.names.specs.Steps.{labelNumber, wide};
 
 pub const PERIOD: u32 = 0x2E;
 
@@ -36,12 +31,12 @@ pub fn label_end(text: &[u32], from: usize) -> usize
     i
 }
 
-// May a label hold c?
+// May a label hold c? The ASCII set stands below 80, and no Japanese character does.
 pub fn in_label(kanji: &[u32], c: u32) -> bool
     ensures { λ r. ⌜ r ≡ labelChar (todayWith (now (kanji .entry))) c ⌝ }
 {
-    if characters::is_ascii(c) {
-        return true;
+    if c < 0x80 {
+        return characters::is_ascii(c);
     }
     characters::is_japanese(kanji, c)
 }
@@ -70,13 +65,13 @@ pub fn first_unfit(kanji: &[u32], form: &[u32]) -> usize
     i
 }
 
-// Is it a Japanese label?
-pub fn any_japanese(kanji: &[u32], label: &[u32]) -> bool
-    ensures { λ r. ⌜ r ≡ isJapanese (todayWith (now (kanji .entry))) (now (label .entry)) ⌝ }
+// Does it hold a character past FF? Of characters that may stand in a label, those are the Japanese.
+pub fn any_wide(label: &[u32]) -> bool
+    ensures { λ r. ⌜ r ≡ anyOf wide (now (label .entry)) ⌝ }
 {
     let mut i = 0;
     while i < label.len() {
-        if characters::is_japanese(kanji, label[i]) {
+        if 0xFF < label[i] {
             return true;
         }
         i += 1;
@@ -158,23 +153,24 @@ fn is_long(n: usize, japanese: bool) -> bool
 
 // The first of 7 to 10 that applies to a leftmost label, or 0.
 pub fn left_rule(kanji: &[u32], label: &[u32]) -> u8
+    requires { ⌜ allOf (labelChar (todayWith (now kanji))) (now label) ≡ true ⌝ }
     ensures { λ r. ⌜ r ≡ labelNumber (todayWith (now (kanji .entry))) (now (label .entry)) ⌝ }
 {
     if has_edge(label) {
-        return HYPHEN_EDGE;
+        return 7;
     }
     let n = label.len();
-    let japanese = any_japanese(kanji, label);
+    let japanese = any_wide(label);
     if is_short(n, japanese) {
-        return TOO_SHORT;
+        return 8;
     }
     if is_long(n, japanese) {
-        return TOO_LONG;
+        return 9;
     }
     if has_bare_dot(kanji, label) {
-        return BARE_DOT;
+        return 10;
     }
-    ACCEPTED
+    0
 }
 
 const JP: [u32; 2] = [0x6A, 0x70];

@@ -4,7 +4,6 @@ use crate::labels::HYPHEN;
 use crate::labels::MIDDLE_DOT;
 use crate::labels::in_label;
 use crate::labels::is_ordinary;
-use crate::tables::table;
 use rules::Seen;
 ghost use mathlib.Core.Path.{_≡_};
 ghost use mathlib.Core.Bool.{_||_};
@@ -138,6 +137,6 @@ pub fn reads_with(kanji: &[u32], label: &[u32]) -> bool
 pub fn reads(label: &[u32]) -> bool
     ensures { λ r. ⌜ r ≡ reader today (now (label .entry)) ⌝ }
 {
-    let kanji = table();
+    let kanji = characters::KANJI;
     reads_with(&kanji, label)
 }

@@ -4,6 +4,7 @@
 ghost use mathlib.Core.Path.{_≡_};
 ghost use Prim.Native.Nat.{_<_, _≤_};
 ghost use lib.ListN.{getD, length};
+ghost use Rattle.characters.specs.Compose.{composed};
 ghost use Rattle.normal.specs.Normal.{normalForm, places};
 ghost use Rattle.normal.specs.Calls.{Normalises, Wrote};
 
@@ -25,6 +26,19 @@ pub struct Normal {
     pub length: usize,
 }
 
+// What a base and the code point after it become, or 0: only the two marks need be asked.
+fn joined(base: u32, mark: u32) -> u32
+    ensures { λ r. ⌜ r ≡ composed base mark ⌝ }
+{
+    if mark < 0x309B {
+        return 0;
+    }
+    if 0x309C < mark {
+        return 0;
+    }
+    characters::joined(base, mark)
+}
+
 // Writes the normal form to the buffer's start, and returns its length. `last` is not yet written: a mark may follow it.
 fn fill(text: &[u32], out: &mut [u32]) -> usize
     requires { ⌜ (0 < length (now text)) × (length (now text) ≤ length (now out)) ⌝ }
@@ -36,7 +50,7 @@ fn fill(text: &[u32], out: &mut [u32]) -> usize
     while i < text.len() {
         let raw = text[i];
         let next = characters::replaced(raw);
-        let one = characters::joined(last, next);
+        let one = joined(last, next);
         i += 1;
         if one == 0 {
             out[n] = last;

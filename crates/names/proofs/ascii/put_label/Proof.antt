@@ -1,13 +1,13 @@
 -- `put_label` meets its contract: a Japanese label is coded, any other is put as it is.
 -- Assumes nothing.
 use native.Mathlib.Omega.{arith}
-use Rattle.names.proofs.Joining.{label-coded, label-plain, plain-fits}
+use Rattle.names.proofs.Joining.{wide-writable, label-coded, label-plain, plain-fits}
 use borrow.Author.Needs.{needs}
 use Rattle.names.proofs.ascii.put_label.Statement.{statement}
 use Rattle.names.proofs.ascii.put_label.Tie as tie
 
-any-japanese-requires : tie.Need-any-japanese-requires
-any-japanese-requires c κs = search needs
+any-wide-requires : tie.Need-any-wide-requires
+any-wide-requires c κs = search needs
 
 put-coded-requires : tie.Need-put-coded-requires
 put-coded-requires c κs = search needs
@@ -16,22 +16,22 @@ same-length : tie.Need-same-length
 same-length c = search needs
 
 returns : tie.Need-returns
-returns c = label-coded _ _ (c .before .before .before .before .before .any-japanese .ensures) (c .before .before .before .before .if1 .taken) (c .before .before .put-coded .ensures)
+returns c = label-coded _ _ (wide-writable _ _ (c .before .before .before .before .before .any-wide .ensures) (c .before .before .before .before .before .before .before .before .before .pre .0)) (c .before .before .before .before .if1 .taken) (c .before .before .put-coded .ensures)
 
 put-plain-requires : tie.Need-put-plain-requires
-put-plain-requires c κs = let f = plain-fits _ _ (c .before .before .any-japanese .ensures) (c .before .if1 .left) (c .before .before .before .before .before .before .pre .0) in (f .0, omega (arith, f .1))
+put-plain-requires c κs = let f = plain-fits _ _ (wide-writable _ _ (c .before .before .any-wide .ensures) (c .before .before .before .before .before .before .pre .0)) (c .before .if1 .left) (c .before .before .before .before .before .before .pre .0) in (f .0, omega (arith, f .1))
 
 same-length-2 : tie.Need-same-length-2
 same-length-2 c = search needs
 
 returns-2 : tie.Need-returns-2
-returns-2 c = label-plain _ _ (c .before .before .before .before .before .any-japanese .ensures) (c .before .before .before .before .if1 .left) (c .before .before .put-plain .ensures)
+returns-2 c = label-plain _ _ (wide-writable _ _ (c .before .before .before .before .before .any-wide .ensures) (c .before .before .before .before .before .before .before .before .before .pre .0)) (c .before .before .before .before .if1 .left) (c .before .before .put-plain .ensures)
 
 pub put-label-spec : {M : Type 1} → statement M
 put-label-spec =
     tie.close
     (tie.spec
-    any-japanese-requires
+    any-wide-requires
     put-coded-requires
     same-length
     returns

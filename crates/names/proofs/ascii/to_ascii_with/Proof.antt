@@ -15,14 +15,20 @@ refused-requires c κs = search needs
 returns : tie.Need-returns
 returns c = ascii-no-room _ _ _ (c .refused .ensures) (c .before .if1 .taken)
 
-judge-with-requires : tie.Need-judge-with-requires
-judge-with-requires c κs = search needs
+slice-aggregate-judge-into : tie.Need-slice-aggregate-judge-into
+slice-aggregate-judge-into c = search needs
+
+judge-into-requires : tie.Need-judge-into-requires
+judge-into-requires c κs = search needs
 
 refused-requires-2 : tie.Need-refused-requires-2
 refused-requires-2 c κs = search needs
 
 returns-2 : tie.Need-returns-2
-returns-2 c = ascii-refused _ _ _ (c .before .before .before .if1 .left) (c .before .before .judge-with .ensures) (c .refused2 .ensures) (c .before .if2 .taken)
+returns-2 c = ascii-refused _ _ _ (c .before .before .before .before .before .before .if1 .left) (c .before .before .before .before .judge-into .ensures) (c .refused2 .ensures) (c .before .if2 .taken)
+
+slice-aggregate-whole : tie.Need-slice-aggregate-whole
+slice-aggregate-whole c = search needs
 
 sub-put-labels : tie.Need-sub-put-labels
 sub-put-labels c = search needs
@@ -31,19 +37,19 @@ part-put-labels-start : tie.Need-part-put-labels-start
 part-put-labels-start c = search needs
 
 part-put-labels-end : tie.Need-part-put-labels-end
-part-put-labels-end c = let p = passed _ _ (c .before .before .before .before .judge-with .ensures) (c .before .before .before .if2 .left) in omega arith
+part-put-labels-end c = let p = passed _ _ (c .before .before .before .before .judge-into .ensures) (c .before .if2 .left) in omega (arith, p .few, c .before .before .before .before .judge-into .kept .1 .1 .0)
 
 slice-aggregate-put-labels : tie.Need-slice-aggregate-put-labels
 slice-aggregate-put-labels c = search needs
 
 put-labels-requires : tie.Need-put-labels-requires
-put-labels-requires c κs = ready _ _ (c .before .before .before .before .before .before .judge-with .ensures) (c .before .before .before .before .before .if2 .left)
+put-labels-requires c κs = ready _ _ (c .before .before .before .before .before .before .judge-into .ensures) (c .before .before .before .if2 .left)
 
 refused-requires-3 : tie.Need-refused-requires-3
 refused-requires-3 c κs = search needs
 
 returns-3 : tie.Need-returns-3
-returns-3 c = stopped _ _ (c .before .before .before .before .before .before .before .before .before .before .before .judge-with .ensures) (c .before .before .before .before .before .before .before .before .before .before .if2 .left) (c .before .before .before .before .put-labels .ensures) _ (c .before .before .before .before .before .before .before .before .before .before .before .before .if1 .left) (c .refused3 .ensures) (not-true _ (c .before .if3 .taken))
+returns-3 c = stopped _ _ (c .before .before .before .before .before .before .before .before .before .before .before .judge-into .ensures) (c .before .before .before .before .before .before .before .before .if2 .left) (c .before .before .before .before .put-labels .ensures) _ (c .before .before .before .before .before .before .before .before .before .before .before .before .before .if1 .left) (c .refused3 .ensures) (not-true _ (c .before .if3 .taken))
 
 slice-aggregate-octets : tie.Need-slice-aggregate-octets
 slice-aggregate-octets c = search needs
@@ -55,26 +61,23 @@ part-copy-start : tie.Need-part-copy-start
 part-copy-start c = search needs
 
 part-copy-end : tie.Need-part-copy-end
-part-copy-end c = let h = put-size _ _ (c .before .before .before .before .before .before .before .before .before .before .before .judge-with .ensures) (c .before .before .before .before .before .before .before .before .before .before .if2 .left) (c .before .before .before .before .put-labels .ensures) (not-false _ (c .before .if3 .left)) in omega arith
+part-copy-end c = let h = put-size _ _ (c .before .before .before .before .before .before .before .before .before .before .before .judge-into .ensures) (c .before .before .before .before .before .before .before .before .if2 .left) (c .before .before .before .before .put-labels .ensures) (not-false _ (c .before .if3 .left)) in omega arith
 
 copy-requires : tie.Need-copy-requires
 copy-requires c κs =
     let y = not-false _ (c .before .before .before .if3 .left) in
-    let e = c .before .before .before .before .before .before .before .before .before .before .before .before .before .judge-with .ensures in
-    let z = c .before .before .before .before .before .before .before .before .before .before .before .before .if2 .left in
+    let e = c .before .before .before .before .before .before .before .before .before .before .before .before .before .judge-into .ensures in
+    let z = c .before .before .before .before .before .before .before .before .before .before .if2 .left in
     let t = c .before .before .before .before .before .before .put-labels .ensures in
     let h = put-size _ _ e z t y in
     let l = piece-length _ _ e z t y in
-    omega (arith, c .before .before .before .before .before .before .put-labels .kept .1 .1 .0, c .before .before .before .before .before .before .before .before .before .before .before .before .before .before .if1 .left)
-
-accepted-requires : tie.Need-accepted-requires
-accepted-requires c κs = search needs
+    omega (arith, c .before .before .before .before .before .before .put-labels .kept .1 .1 .0, c .before .before .before .before .before .before .before .before .before .before .before .before .before .before .before .if1 .left)
 
 same-length : tie.Need-same-length
 same-length c = search needs
 
 returns-4 : tie.Need-returns-4
-returns-4 c = finished _ _ (c .before .before .before .before .before .before .before .before .before .before .before .before .before .before .before .before .before .judge-with .ensures) (c .before .before .before .before .before .before .before .before .before .before .before .before .before .before .before .before .if2 .left) (c .before .before .before .before .before .before .before .before .before .before .put-labels .ensures) _ (c .before .before .before .before .before .before .before .before .before .before .before .before .before .before .before .before .before .before .if1 .left) (c .accepted .ensures) (not-false _ (c .before .before .before .before .before .before .before .if3 .left)) refl (c .before .before .before .copy .ensures .1)
+returns-4 c = finished _ _ (c .before .before .before .before .before .before .before .before .before .before .before .before .before .before .before .before .judge-into .ensures) (c .before .before .before .before .before .before .before .before .before .before .before .before .before .if2 .left) (c .before .before .before .before .before .before .before .before .before .put-labels .ensures) _ (c .before .before .before .before .before .before .before .before .before .before .before .before .before .before .before .before .before .before .if1 .left) (not-false _ (c .before .before .before .before .before .before .if3 .left)) refl (c .before .before .copy .ensures .1)
 
 pub to-ascii-with-spec : {M : Type 1} → statement M
 to-ascii-with-spec =
@@ -82,9 +85,11 @@ to-ascii-with-spec =
     (tie.spec
     refused-requires
     returns
-    judge-with-requires
+    slice-aggregate-judge-into
+    judge-into-requires
     refused-requires-2
     returns-2
+    slice-aggregate-whole
     sub-put-labels
     part-put-labels-start
     part-put-labels-end
@@ -97,6 +102,5 @@ to-ascii-with-spec =
     part-copy-start
     part-copy-end
     copy-requires
-    accepted-requires
     same-length
     returns-4)

@@ -12,14 +12,20 @@ refused-requires c κs = search needs
 returns : tie.Need-returns
 returns c = check-no-room _ _ _ (c .refused .ensures) (c .before .if1 .taken)
 
-judge-with-requires : tie.Need-judge-with-requires
-judge-with-requires c κs = search needs
+slice-aggregate-judge-into : tie.Need-slice-aggregate-judge-into
+slice-aggregate-judge-into c = search needs
+
+judge-into-requires : tie.Need-judge-into-requires
+judge-into-requires c κs = search needs
 
 refused-requires-2 : tie.Need-refused-requires-2
 refused-requires-2 c κs = search needs
 
 returns-2 : tie.Need-returns-2
-returns-2 c = check-refused _ _ _ (c .before .before .before .if1 .left) (c .before .before .judge-with .ensures) (c .refused2 .ensures) (c .before .if2 .taken)
+returns-2 c = check-refused _ _ _ (c .before .before .before .before .before .before .if1 .left) (c .before .before .before .before .judge-into .ensures) (c .refused2 .ensures) (c .before .if2 .taken)
+
+slice-aggregate-whole : tie.Need-slice-aggregate-whole
+slice-aggregate-whole c = search needs
 
 sub-copy : tie.Need-sub-copy
 sub-copy c = search needs
@@ -28,19 +34,16 @@ part-copy-start : tie.Need-part-copy-start
 part-copy-start c = search needs
 
 part-copy-end : tie.Need-part-copy-end
-part-copy-end c = let p = passed _ _ (c .before .before .before .before .judge-with .ensures) (c .before .before .before .if2 .left) in omega arith
+part-copy-end c = let p = passed _ _ (c .before .before .before .before .judge-into .ensures) (c .before .if2 .left) in omega (arith, p .few, c .before .before .before .before .judge-into .kept .1 .1 .0)
 
 copy-requires : tie.Need-copy-requires
 copy-requires c κs = search needs
-
-accepted-requires : tie.Need-accepted-requires
-accepted-requires c κs = search needs
 
 same-length : tie.Need-same-length
 same-length c = search needs
 
 returns-3 : tie.Need-returns-3
-returns-3 c = check-accepted _ _ _ (c .before .before .before .before .before .before .before .before .before .before .before .if1 .left) (c .before .before .before .before .before .before .before .before .before .before .judge-with .ensures) (c .accepted .ensures) (c .before .before .before .before .before .before .before .before .before .if2 .left) (c .before .before .before .copy .ensures)
+returns-3 c = check-accepted _ _ _ (c .before .before .before .before .before .before .before .before .before .before .before .if1 .left) (c .before .before .before .before .before .before .before .before .before .judge-into .ensures) (c .before .before .before .before .before .before .if2 .left) (c .before .before .copy .ensures)
 
 pub check-with-spec : {M : Type 1} → statement M
 check-with-spec =
@@ -48,13 +51,14 @@ check-with-spec =
     (tie.spec
     refused-requires
     returns
-    judge-with-requires
+    slice-aggregate-judge-into
+    judge-into-requires
     refused-requires-2
     returns-2
+    slice-aggregate-whole
     sub-copy
     part-copy-start
     part-copy-end
     copy-requires
-    accepted-requires
     same-length
     returns-3)

@@ -1,72 +1,18 @@
--- `judge_with` meets its contract: 2 and 3 are the normal form call's, 4 is the first unfit character's, and the rest the labels'.
+-- `judge_with` meets its contract: its array of zeros, lent, holds the normal form before its zeros.
 -- Assumes nothing.
-use Rattle.names.proofs.Judging.{judged-sizes, in-array, judged-unfit, judged-fit}
-use native.Mathlib.Omega.{arith}
+use Rattle.names.proofs.Judging.{as-judged}
 use borrow.Author.Needs.{needs}
 use Rattle.names.proofs.judges.judge_with.Statement.{statement}
 use Rattle.names.proofs.judges.judge_with.Tie as tie
 
-slice-aggregate-normal-form : tie.Need-slice-aggregate-normal-form
-slice-aggregate-normal-form c = search needs
+slice-aggregate-judge-into : tie.Need-slice-aggregate-judge-into
+slice-aggregate-judge-into c = search needs
 
-normal-form-requires : tie.Need-normal-form-requires
-normal-form-requires c κs = search needs
+judge-into-requires : tie.Need-judge-into-requires
+judge-into-requires c κs = search needs
 
 returns : tie.Need-returns
-returns c = judged-sizes _ (c .before .before .before .normal-form .ensures) (c .if1 .taken)
-
-slice-aggregate-whole : tie.Need-slice-aggregate-whole
-slice-aggregate-whole c = search needs
-
-sub-first-unfit : tie.Need-sub-first-unfit
-sub-first-unfit c = search needs
-
-part-first-unfit-start : tie.Need-part-first-unfit-start
-part-first-unfit-start c = search needs
-
-part-first-unfit-end : tie.Need-part-first-unfit-end
-part-first-unfit-end c = let h = in-array (c .before .before .before .before .normal-form .ensures) (c .before .if1 .left) in omega (arith, c .before .before .before .before .normal-form .kept .1 .0)
-
-first-unfit-requires : tie.Need-first-unfit-requires
-first-unfit-requires c κs = search needs
-
-place-of-requires : tie.Need-place-of-requires
-place-of-requires c κs = search needs
-
-returns-2 : tie.Need-returns-2
-returns-2 c = judged-unfit _ (c .before .before .before .before .before .before .before .before .normal-form .ensures) (c .before .before .before .before .before .if1 .left) (c .before .before .first-unfit .ensures) (c .before .if2 .taken) (c .place-of .ensures)
-
-sub-name-rules : tie.Need-sub-name-rules
-sub-name-rules c = search needs
-
-part-name-rules-start : tie.Need-part-name-rules-start
-part-name-rules-start c = search needs
-
-part-name-rules-end : tie.Need-part-name-rules-end
-part-name-rules-end c = let h = in-array (c .before .before .before .before .before .before .before .normal-form .ensures) (c .before .before .before .before .if1 .left) in omega (arith, c .before .before .before .before .before .before .before .normal-form .kept .1 .0)
-
-name-rules-requires : tie.Need-name-rules-requires
-name-rules-requires c κs = search needs
-
-returns-3 : tie.Need-returns-3
-returns-3 c = judged-fit _ (c .before .before .before .before .before .before .before .before .before .normal-form .ensures) (c .before .before .before .before .before .before .if1 .left) (c .before .before .before .first-unfit .ensures) (c .before .before .if2 .left) (c .name-rules .ensures)
+returns c = as-judged _ _ (c .before .judge-into .ensures)
 
 pub judge-with-spec : {M : Type 1} → statement M
-judge-with-spec =
-    tie.close
-    (tie.spec
-    slice-aggregate-normal-form
-    normal-form-requires
-    returns
-    slice-aggregate-whole
-    sub-first-unfit
-    part-first-unfit-start
-    part-first-unfit-end
-    first-unfit-requires
-    place-of-requires
-    returns-2
-    sub-name-rules
-    part-name-rules-start
-    part-name-rules-end
-    name-rules-requires
-    returns-3)
+judge-with-spec = tie.close (tie.spec slice-aggregate-judge-into judge-into-requires returns)

@@ -29,7 +29,7 @@ returns-3 : tie.Need-returns-3
 returns-3 c = c .refused3 .ensures ∙ three-2 _ _ _ _ (c .before .before .before .if1 .left) (c .before .before .if2 .left) (c .before .if3 .taken)
 
 left-rule-requires : tie.Need-left-rule-requires
-left-rule-requires c κs = search needs
+left-rule-requires c κs = c .before .before .before .before .before .before .before .pre
 
 refused-requires-4 : tie.Need-refused-requires-4
 refused-requires-4 c κs = search needs

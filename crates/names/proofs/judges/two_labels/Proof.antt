@@ -21,7 +21,7 @@ returns-2 : tie.Need-returns-2
 returns-2 c = c .refused2 .ensures ∙ two-1 _ _ _ (c .before .before .if1 .left) (c .before .if2 .taken)
 
 left-rule-requires : tie.Need-left-rule-requires
-left-rule-requires c κs = search needs
+left-rule-requires c κs = c .before .before .before .before .before .pre
 
 refused-requires-3 : tie.Need-refused-requires-3
 refused-requires-3 c κs = search needs

@@ -1,6 +1,5 @@
--- `in_label` meets its contract: what is not of the ASCII set is asked of the table.
+-- `in_label` meets its contract: below 80 stands the ASCII set and nothing Japanese, from 80 on nothing of the ASCII set.
 -- Assumes nothing.
-use Rattle.rules.specs.Editions.{todayWith}
 use Rattle.names.proofs.OfLabel.{in-ascii, in-japanese}
 use borrow.Author.Needs.{needs}
 use Rattle.names.proofs.labels.in_label.Statement.{statement}
@@ -10,14 +9,13 @@ is-ascii-requires : tie.Need-is-ascii-requires
 is-ascii-requires c κs = search needs
 
 returns : tie.Need-returns
-returns c = in-ascii _ _ (c .before .is-ascii .ensures) (c .if1 .taken)
+returns c = in-ascii _ _ (c .before .if1 .taken) (c .is-ascii .ensures)
 
 is-japanese-requires : tie.Need-is-japanese-requires
 is-japanese-requires c κs = search needs
 
 returns-2 : tie.Need-returns-2
-unfolding todayWith
-returns-2 c = in-japanese _ _ (c .before .before .is-ascii .ensures) (c .before .if1 .left) (c .is-japanese .ensures)
+returns-2 c = in-japanese _ _ (c .before .if1 .left) (c .is-japanese .ensures)
 
 pub in-label-spec : {M : Type 1} → statement M
 in-label-spec = tie.close (tie.spec is-ascii-requires returns is-japanese-requires returns-2)

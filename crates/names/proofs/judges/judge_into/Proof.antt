@@ -1,0 +1,76 @@
+-- `judge_into` meets its contract: 2 and 3 are the normal form call's, 4 is the first unfit character's, and the rest the labels'.
+-- Assumes nothing.
+use Rattle.names.proofs.Judging.{judges-sizes, in-buffer, judges-unfit, form-fit, judges-fit}
+use native.Mathlib.Omega.{arith}
+use borrow.Author.Needs.{needs}
+use Rattle.names.proofs.judges.judge_into.Statement.{statement}
+use Rattle.names.proofs.judges.judge_into.Tie as tie
+
+normal-form-requires : tie.Need-normal-form-requires
+normal-form-requires c κs = search needs
+
+same-length : tie.Need-same-length
+same-length c = search needs
+
+returns : tie.Need-returns
+returns c = judges-sizes _ (c .before .before .before .before .before .before .before .before .before .pre) (c .before .before .before .before .normal-form .ensures) (c .if1 .taken)
+
+sub-first-unfit : tie.Need-sub-first-unfit
+sub-first-unfit c = search needs
+
+part-first-unfit-start : tie.Need-part-first-unfit-start
+part-first-unfit-start c = search needs
+
+part-first-unfit-end : tie.Need-part-first-unfit-end
+part-first-unfit-end c = let h = in-buffer (c .before .before .before .before .before .before .before .before .before .before .pre) (c .before .before .before .before .before .normal-form .ensures) (c .before .if1 .left) in omega (arith, c .before .before .before .before .before .normal-form .kept .1 .0, c .before .before .before .before .before .before .before .before .before .before .pre)
+
+first-unfit-requires : tie.Need-first-unfit-requires
+first-unfit-requires c κs = search needs
+
+place-of-requires : tie.Need-place-of-requires
+place-of-requires c κs = search needs
+
+same-length-2 : tie.Need-same-length-2
+same-length-2 c = search needs
+
+returns-2 : tie.Need-returns-2
+returns-2 c = judges-unfit _ (c .before .before .before .before .before .before .before .before .before .before .before .before .before .before .pre) (c .before .before .before .before .before .before .before .before .before .normal-form .ensures) (c .before .before .before .before .before .if1 .left) (c .before .before .first-unfit .ensures) (c .before .if2 .taken) (c .place-of .ensures)
+
+sub-name-rules : tie.Need-sub-name-rules
+sub-name-rules c = search needs
+
+part-name-rules-start : tie.Need-part-name-rules-start
+part-name-rules-start c = search needs
+
+part-name-rules-end : tie.Need-part-name-rules-end
+part-name-rules-end c = let h = in-buffer (c .before .before .before .before .before .before .before .before .before .before .before .before .before .before .pre) (c .before .before .before .before .before .before .before .before .before .normal-form .ensures) (c .before .before .before .before .before .if1 .left) in omega (arith, c .before .before .before .before .before .before .before .before .before .normal-form .kept .1 .0, c .before .before .before .before .before .before .before .before .before .before .before .before .before .before .pre)
+
+name-rules-requires : tie.Need-name-rules-requires
+name-rules-requires c κs = form-fit _ (c .before .before .before .before .before .before .before .before .before .before .before .before .before .before .before .pre) (c .before .before .before .before .before .before .before .before .before .before .normal-form .ensures) (c .before .before .before .before .before .before .if1 .left) (c .before .before .before .first-unfit .ensures) (c .before .before .if2 .left)
+
+same-length-3 : tie.Need-same-length-3
+same-length-3 c = search needs
+
+returns-3 : tie.Need-returns-3
+returns-3 c = judges-fit _ (c .before .before .before .before .before .before .before .before .before .before .before .before .before .before .before .before .pre) (c .before .before .before .before .before .before .before .before .before .before .before .normal-form .ensures) (c .before .before .before .before .before .before .before .if1 .left) (c .before .before .before .before .first-unfit .ensures) (c .before .before .before .if2 .left) (c .name-rules .ensures)
+
+pub judge-into-spec : {M : Type 1} → statement M
+judge-into-spec =
+    tie.close
+    (tie.spec
+    normal-form-requires
+    same-length
+    returns
+    sub-first-unfit
+    part-first-unfit-start
+    part-first-unfit-end
+    first-unfit-requires
+    place-of-requires
+    same-length-2
+    returns-2
+    sub-name-rules
+    part-name-rules-start
+    part-name-rules-end
+    name-rules-requires
+    same-length-3
+    returns-3)
