@@ -6,5 +6,6 @@ pub mod Judging
 pub mod Answering
 pub mod Joining
 pub mod Enough
+pub mod Lending
 pub mod Unique
 pub mod Coded

@@ -1,10 +1,14 @@
 // The whole ASCII form of a name: each Japanese label encoded, ASCII labels as they are, joined by periods. What the coder does
 // is known by its stated answers alone.
+use crate::ACCEPTED;
 use crate::Checked;
+use crate::NO_ROOM;
+use crate::OVER_63;
 use crate::checks::refused;
 use crate::judges::judge_into;
 use crate::labels::any_wide;
 use crate::labels::label_end;
+use crate::tables::table;
 ghost use mathlib.Core.Path.{_≡_};
 ghost use mathlib.Core.Bool.{true, not};
 ghost use Prim.Native.Nat.{_+_, _≤_};
@@ -44,7 +48,7 @@ fn put_coded(label: &[u32], out: &mut [u8], at: usize) -> Put
 {
     let coded = punycode::encode(label, &mut out[at..]);
     let number = coded.number;
-    if number != 0 {
+    if number != ACCEPTED {
         return Put { coded: false, at };
     }
     Put {
@@ -94,11 +98,11 @@ pub fn to_ascii_with(kanji: &[u32], text: &[u32], out: &mut [u8]) -> Checked
     ensures { λ r. ⌜ AsciiForms (todayWith (now (kanji .entry))) (now (text .entry)) (now (out .entry)) (now (out .exit)) r ⌝ }
 {
     if out.len() < 192 {
-        return refused(1, 0);
+        return refused(NO_ROOM, 0);
     }
     let mut form = [0u32; 256];
     let judged = judge_into(kanji, text, &mut form);
-    if judged.number != 0 {
+    if judged.number != ACCEPTED {
         return refused(judged.number, judged.place);
     }
     let n = judged.length;
@@ -106,14 +110,14 @@ pub fn to_ascii_with(kanji: &[u32], text: &[u32], out: &mut [u8]) -> Checked
     let mut ascii = [0u8; 192];
     let put = put_labels(kanji, &whole[0..n], &mut ascii);
     if !put.coded {
-        return refused(14, 0);
+        return refused(OVER_63, 0);
     }
     let length = put.at;
     let octets: &[u8] = &ascii;
     bytes::copy(&octets[0..length], out);
     let class = judged.class;
     Checked {
-        number: 0,
+        number: ACCEPTED,
         place: 0,
         class,
         length,
@@ -124,6 +128,6 @@ pub fn to_ascii_with(kanji: &[u32], text: &[u32], out: &mut [u8]) -> Checked
 pub fn to_ascii(text: &[u32], out: &mut [u8]) -> Checked
     ensures { λ r. ⌜ AsciiForms today (now (text .entry)) (now (out .entry)) (now (out .exit)) r ⌝ }
 {
-    let kanji = characters::KANJI;
+    let kanji = table();
     to_ascii_with(&kanji, text, out)
 }

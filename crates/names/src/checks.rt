@@ -1,6 +1,9 @@
 // The check: the judge, and with 0 the normal form is written.
+use crate::ACCEPTED;
 use crate::Checked;
+use crate::NO_ROOM;
 use crate::judges::judge_into;
+use crate::tables::table;
 use rules::Class;
 ghost use mathlib.Core.Path.{_≡_};
 ghost use Rattle.rules.specs.Editions.{today, todayWith};
@@ -23,11 +26,11 @@ pub fn check_with(kanji: &[u32], text: &[u32], out: &mut [u32]) -> Checked
     ensures { λ r. ⌜ Checks (todayWith (now (kanji .entry))) (now (text .entry)) (now (out .entry)) (now (out .exit)) r ⌝ }
 {
     if out.len() < 256 {
-        return refused(1, 0);
+        return refused(NO_ROOM, 0);
     }
     let mut form = [0u32; 256];
     let judged = judge_into(kanji, text, &mut form);
-    if judged.number != 0 {
+    if judged.number != ACCEPTED {
         return refused(judged.number, judged.place);
     }
     let length = judged.length;
@@ -35,7 +38,7 @@ pub fn check_with(kanji: &[u32], text: &[u32], out: &mut [u32]) -> Checked
     lists::copy(&whole[0..length], out);
     let class = judged.class;
     Checked {
-        number: 0,
+        number: ACCEPTED,
         place: 0,
         class,
         length,
@@ -46,6 +49,6 @@ pub fn check_with(kanji: &[u32], text: &[u32], out: &mut [u32]) -> Checked
 pub fn check(text: &[u32], out: &mut [u32]) -> Checked
     ensures { λ r. ⌜ Checks today (now (text .entry)) (now (out .entry)) (now (out .exit)) r ⌝ }
 {
-    let kanji = characters::KANJI;
+    let kanji = table();
     check_with(&kanji, text, out)
 }

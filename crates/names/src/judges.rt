@@ -1,11 +1,18 @@
 // The judge: what the rules say of a text, with its normal form. Every other call on a name asks it.
+use crate::ACCEPTED;
 use crate::Checked;
+use crate::EMPTY_LABEL;
 use crate::Judged;
+use crate::LABEL_COUNT;
+use crate::NOT_JP;
+use crate::NOT_PREFECTURE;
+use crate::UNFIT;
 use crate::labels::first_unfit;
 use crate::labels::is_jp;
 use crate::labels::label_end;
 use crate::labels::left_rule;
 use crate::middles::is_prefecture;
+use crate::tables::table;
 use rules::Class;
 use rules::Verdict;
 ghost use mathlib.Core.Path.{_≡_};
@@ -35,7 +42,7 @@ fn accepted(class: Class) -> Verdict
     ensures { λ r. ⌜ r ≡ accepted class ⌝ }
 {
     Verdict {
-        number: 0,
+        number: ACCEPTED,
         place: 0,
         class,
     }
@@ -47,19 +54,19 @@ fn two_labels(kanji: &[u32], left: &[u32], last: &[u32]) -> Verdict
     ensures { λ r. ⌜ r ≡ byLabels (todayWith (now (kanji .entry))) (now (left .entry) ∷ now (last .entry) ∷ []) ⌝ }
 {
     if left.len() == 0 {
-        return refused(6, 0);
+        return refused(EMPTY_LABEL, 0);
     }
     if last.len() == 0 {
-        return refused(6, 1);
+        return refused(EMPTY_LABEL, 1);
     }
     let number = left_rule(kanji, left);
-    if number != 0 {
+    if number != ACCEPTED {
         return refused(number, 0);
     }
     if is_jp(last) {
         return accepted(Class::General);
     }
-    refused(11, 0)
+    refused(NOT_JP, 0)
 }
 
 // The rules of three labels, 6 to 12.
@@ -68,26 +75,26 @@ fn three_labels(kanji: &[u32], left: &[u32], middle: &[u32], last: &[u32]) -> Ve
     ensures { λ r. ⌜ r ≡ byLabels (todayWith (now (kanji .entry))) (now (left .entry) ∷ now (middle .entry) ∷ now (last .entry) ∷ []) ⌝ }
 {
     if left.len() == 0 {
-        return refused(6, 0);
+        return refused(EMPTY_LABEL, 0);
     }
     if middle.len() == 0 {
-        return refused(6, 1);
+        return refused(EMPTY_LABEL, 1);
     }
     if last.len() == 0 {
-        return refused(6, 2);
+        return refused(EMPTY_LABEL, 2);
     }
     let number = left_rule(kanji, left);
-    if number != 0 {
+    if number != ACCEPTED {
         return refused(number, 0);
     }
     let under_jp = is_jp(last);
     if !under_jp {
-        return refused(11, 0);
+        return refused(NOT_JP, 0);
     }
     if is_prefecture(middle) {
         return accepted(Class::Prefecture);
     }
-    refused(12, 0)
+    refused(NOT_PREFECTURE, 0)
 }
 
 // The rules of a form whose characters are fit, 5 to 12.
@@ -98,7 +105,7 @@ fn name_rules(kanji: &[u32], form: &[u32]) -> Verdict
     let n = form.len();
     let a = label_end(form, 0);
     if a >= n {
-        return refused(5, 0);
+        return refused(LABEL_COUNT, 0);
     }
     let p = a + 1;
     let b = label_end(form, p);
@@ -110,17 +117,17 @@ fn name_rules(kanji: &[u32], form: &[u32]) -> Verdict
     if d >= n {
         return three_labels(kanji, &form[0..a], &form[p..b], &form[q..n]);
     }
-    refused(5, 0)
+    refused(LABEL_COUNT, 0)
 }
 
 // The rules on a text, 2 to 12; its normal form is left at the start of the lent buffer.
-pub fn judge_into(kanji: &[u32], text: &[u32], form: &mut [u32]) -> Checked
+pub(crate) fn judge_into(kanji: &[u32], text: &[u32], form: &mut [u32]) -> Checked
     requires { ⌜ 256 ≤ length (now form) ⌝ }
     ensures { λ r. ⌜ Judges (todayWith (now (kanji .entry))) (now (text .entry)) (now (form .entry)) (now (form .exit)) r ⌝ }
 {
     let normal = normal::normal_form(text, form);
     let length = normal.length;
-    if normal.number != 0 {
+    if normal.number != ACCEPTED {
         return Checked {
             number: normal.number,
             place: normal.place,
@@ -131,7 +138,7 @@ pub fn judge_into(kanji: &[u32], text: &[u32], form: &mut [u32]) -> Checked
     let k = first_unfit(kanji, &form[0..length]);
     if k < length {
         return Checked {
-            number: 4,
+            number: UNFIT,
             place: normal::place_of(text, k),
             class: Class::None,
             length,
@@ -167,6 +174,6 @@ pub fn judge_with(kanji: &[u32], text: &[u32]) -> Judged
 pub fn judge(text: &[u32]) -> Judged
     ensures { λ r. ⌜ r ≡ judged today (now (text .entry)) ⌝ }
 {
-    let kanji = characters::KANJI;
+    let kanji = table();
     judge_with(&kanji, text)
 }

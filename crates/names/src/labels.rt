@@ -1,4 +1,9 @@
 // What is asked of one label, and of the characters of a form.
+use crate::ACCEPTED;
+use crate::BARE_DOT;
+use crate::HYPHEN_EDGE;
+use crate::TOO_LONG;
+use crate::TOO_SHORT;
 ghost use mathlib.Core.Path.{_≡_};
 ghost use mathlib.Core.Bool.{true, not, _&&_};
 ghost use Prim.Native.Nat.{_+_};
@@ -66,7 +71,7 @@ pub fn first_unfit(kanji: &[u32], form: &[u32]) -> usize
 }
 
 // Does it hold a character past FF? Of characters that may stand in a label, those are the Japanese.
-pub fn any_wide(label: &[u32]) -> bool
+pub(crate) fn any_wide(label: &[u32]) -> bool
     ensures { λ r. ⌜ r ≡ anyOf wide (now (label .entry)) ⌝ }
 {
     let mut i = 0;
@@ -152,25 +157,25 @@ fn is_long(n: usize, japanese: bool) -> bool
 }
 
 // The first of 7 to 10 that applies to a leftmost label, or 0.
-pub fn left_rule(kanji: &[u32], label: &[u32]) -> u8
+pub(crate) fn left_rule(kanji: &[u32], label: &[u32]) -> u8
     requires { ⌜ allOf (labelChar (todayWith (now kanji))) (now label) ≡ true ⌝ }
     ensures { λ r. ⌜ r ≡ labelNumber (todayWith (now (kanji .entry))) (now (label .entry)) ⌝ }
 {
     if has_edge(label) {
-        return 7;
+        return HYPHEN_EDGE;
     }
     let n = label.len();
     let japanese = any_wide(label);
     if is_short(n, japanese) {
-        return 8;
+        return TOO_SHORT;
     }
     if is_long(n, japanese) {
-        return 9;
+        return TOO_LONG;
     }
     if has_bare_dot(kanji, label) {
-        return 10;
+        return BARE_DOT;
     }
-    0
+    ACCEPTED
 }
 
 const JP: [u32; 2] = [0x6A, 0x70];

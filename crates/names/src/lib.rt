@@ -8,6 +8,7 @@ mod labels;
 mod middles;
 mod prefectures;
 mod readers;
+mod tables;
 
 pub use ascii::to_ascii;
 pub use ascii::to_ascii_with;
@@ -17,6 +18,31 @@ pub use judges::judge;
 pub use judges::judge_with;
 pub use readers::reads;
 pub use readers::reads_with;
+
+// The numbers that a call on a name answers (document 01), besides 2 and 3, which are the normal form's.
+pub const ACCEPTED: u8 = 0;
+
+pub const NO_ROOM: u8 = 1;
+
+pub const UNFIT: u8 = 4;
+
+pub const LABEL_COUNT: u8 = 5;
+
+pub const EMPTY_LABEL: u8 = 6;
+
+pub const HYPHEN_EDGE: u8 = 7;
+
+pub const TOO_SHORT: u8 = 8;
+
+pub const TOO_LONG: u8 = 9;
+
+pub const BARE_DOT: u8 = 10;
+
+pub const NOT_JP: u8 = 11;
+
+pub const NOT_PREFECTURE: u8 = 12;
+
+pub const OVER_63: u8 = 14;
 
 pub struct Judged {
     pub number: u8,

@@ -4,6 +4,7 @@ use crate::labels::HYPHEN;
 use crate::labels::MIDDLE_DOT;
 use crate::labels::in_label;
 use crate::labels::is_ordinary;
+use crate::tables::table;
 use rules::Seen;
 ghost use mathlib.Core.Path.{_≡_};
 ghost use mathlib.Core.Bool.{_||_};
@@ -137,6 +138,6 @@ pub fn reads_with(kanji: &[u32], label: &[u32]) -> bool
 pub fn reads(label: &[u32]) -> bool
     ensures { λ r. ⌜ r ≡ reader today (now (label .entry)) ⌝ }
 {
-    let kanji = characters::KANJI;
+    let kanji = table();
     reads_with(&kanji, label)
 }

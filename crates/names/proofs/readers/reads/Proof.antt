@@ -1,14 +1,16 @@
--- `reads` meets its contract: the table that it lends is the list of kanji.
+-- `reads` meets its contract: it lends the list of kanji.
 -- Assumes nothing.
-use mathlib.Core.Path.{ap, _∙_}
-use Rattle.characters.specs.Kanji.{kanji}
+use mathlib.Core.Path.{_≡_}
 use Rattle.rules.specs.Permits.{Permits}
 use Rattle.rules.specs.Reader.{reader}
-use Rattle.rules.proofs.Today.{lent}
+use Rattle.names.proofs.Lending.{lending}
 use borrow.Author.Needs.{needs}
 use Rattle.names.proofs.readers.reads.Statement.{statement}
 use Rattle.names.proofs.readers.reads.Tie as tie
 use Rattle.names.proofs.readers.reads.Reads as reads
+
+table-requires : tie.Need-table-requires
+table-requires c κs = search needs
 
 slice-aggregate-reads-with : tie.Need-slice-aggregate-reads-with
 slice-aggregate-reads-with c = search needs
@@ -17,8 +19,8 @@ reads-with-requires : tie.Need-reads-with-requires
 reads-with-requires c κs = search needs
 
 returns : tie.Need-returns
-unfolding kanji
-returns c = c .reads-with .ensures ∙ ap (λ (P : Permits). reader P (c .before .before .before .args .label .now)) lent
+returns c = lending (λ (P : Permits). c .reads-with .result ≡ reader P (c .before .before .before .before .args .label .now)) (c .before .before .table .ensures) (c .reads-with .ensures)
 
 pub reads-spec : {M : Type 1} → statement M
-reads-spec = tie.close (tie.spec slice-aggregate-reads-with reads-with-requires returns)
+reads-spec =
+    tie.close (tie.spec table-requires slice-aggregate-reads-with reads-with-requires returns)
