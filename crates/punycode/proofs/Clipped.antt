@@ -5,7 +5,7 @@ use mathlib.Core.Path.{_≡_, refl, sym, ap, _∙_}
 use mathlib.Core.Bool.{Bool, true, false}
 use mathlib.Core.List.{List, [], _∷_, _++_, append-assoc, append-nil}
 use Prim.Native.Nat.{ℕ, zero, suc, _+_, _-_, _*_, _/_, _%_, _≤_, _<_}
-use native.Mathlib.Nat.{div-le-self}
+use native.Mathlib.Nat.{div-le-self, div-lt-iff-lt-mul, mul-le-mul-left}
 use native.Mathlib.Numerals.{add-one}
 use native.Mathlib.Omega.{arith}
 use lib.Dec.{ltb, eqb}
@@ -32,11 +32,14 @@ clip-again at text h = take-all 64 (take at text) (omega (arith, length-take at 
 pub whole : (x t : List ℕ) → t ≡ take 64 x → length t ≤ 63 → t ≡ x
 whole x t e h = split (length x) 64 (λ l. e ∙ take-all 64 x (omega arith)) (λ g. absurd (omega (arith, ap length e, length-take 64 x)))
 
-module _ (out : List ℕ) (at c : ℕ) (e : length out ≡ 64) where
+pub store-is : (out : List ℕ) (at c : ℕ) → at < length out → take (at + 1) (set out at c) ≡ take at out ++ (c ∷ [])
+store-is out at c h = rw (add-one at, take-suc-set out at c h)
+
+module _ (out : List ℕ) (at c : ℕ) (e : length out ≡ 80) where
   pub clip-put : at < 64 → take (at + 1) (set out at c) ≡ take 64 (take at out ++ (c ∷ []))
   clip-put h =
       let n = length-take-le at out (omega arith) in
-      rw (add-one at, take-suc-set out at c (omega arith)) (sym (take-all 64 (take at out ++ (c ∷ [])) (omega (arith, length-append (take at out) (c ∷ []), n))))
+      store-is out at c (omega arith) ∙ sym (take-all 64 (take at out ++ (c ∷ [])) (omega (arith, length-append (take at out) (c ∷ []), n)))
 
   pub clip-full : at ≤ 64 → 64 ≤ at → take at out ≡ take 64 (take at out ++ (c ∷ []))
   clip-full h k =
@@ -61,8 +64,8 @@ adapt-end (suc f) k d l = rw (le-ltb 455 d l)
 
 -- ---- the loop of an integer
 
-clip-step : (a b : List ℕ) (c : ℕ) (rest : List ℕ) → a ≡ take 64 (b ++ (c ∷ [])) → take 64 (a ++ rest) ≡ take 64 (b ++ c ∷ rest)
-clip-step a b c rest e = rw e (clip-append (b ++ (c ∷ [])) rest ∙ ap (take 64) (append-snoc b c rest))
+digit-step : (a b : List ℕ) (c : ℕ) (rest : List ℕ) → a ≡ b ++ (c ∷ []) → take 64 (a ++ rest) ≡ take 64 (b ++ c ∷ rest)
+digit-step a b c rest e = rw e (ap (take 64) (append-snoc b c rest))
 
 varint-next : (f bias k q t : ℕ) → q < f → t ≡ threshold k bias → 1 ≤ t → t ≤ q
     → (g : ℕ) × ((q - t) / (36 - t) < g) × (varint f bias k q ≡ digit (t + (q - t) % (36 - t)) ∷ varint g bias (k + 36) ((q - t) / (36 - t)))
@@ -76,16 +79,43 @@ varint-end zero bias k q t h e l = absurd (omega arith)
 varint-end (suc f) bias k q t h e l = rw (← e, lt-ltb q t l)
 
 -- a turn of the loop that writes an integer, and what follows the loop: `b` is written, then `a`
-module _ (f bias k q t : ℕ) (a b total : List ℕ) (d : ℕ) (enough : q < f) (is : t ≡ threshold k bias) (wrote : a ≡ take 64 (b ++ (d ∷ [])))
+module _ (f bias k q t : ℕ) (a b total : List ℕ) (d : ℕ) (enough : q < f) (is : t ≡ threshold k bias) (wrote : a ≡ b ++ (d ∷ []))
     (all : take 64 (b ++ varint f bias k q) ≡ total) where
   pub varint-turn : 1 ≤ t → t ≤ q → d ≡ digit (t + (q - t) % (36 - t))
       → (g : ℕ) × ((q - t) / (36 - t) < g) × (take 64 (a ++ varint g bias (k + 36) ((q - t) / (36 - t))) ≡ total)
   varint-turn l h e =
       let g = varint-next f bias k q t enough is l h in
-      (g .0, g .1, clip-step a b d _ wrote ∙ rw (e, ← g .2) all)
+      (g .0, g .1, digit-step a b d _ wrote ∙ rw (e, ← g .2) all)
 
-  pub varint-last : q < t → d ≡ digit q → a ≡ total
-  varint-last l e = wrote ∙ rw (e, ← varint-end f bias k q t enough is l) all
+  pub varint-last : q < t → d ≡ digit q → take 64 a ≡ total
+  varint-last l e = ap (take 64) wrote ∙ rw (e, ← varint-end f bias k q t enough is l) all
+
+tens : ℕ → ℕ
+tens zero = 1
+tens (suc e) = 10 * tens e
+
+-- q is below 10 to the power of e, so that it has at most e digits more
+pub Fewer : ℕ → ℕ → Type 0
+Fewer e q = q < tens e
+
+pub fewer-first : (q : ℕ) → q < 0x4400000 → Fewer 15 q
+unfolding Fewer tens
+fewer-first q h = omega arith
+
+pub fewer-left : (e q : ℕ) → 1 ≤ q → Fewer e q → 1 ≤ e
+unfolding Fewer tens
+fewer-left zero q h v = absurd (omega arith)
+fewer-left (suc e) q h v = omega arith
+
+pub fewer-next : (e d q t : ℕ) → e ≡ suc d → t ≤ 26 → Fewer e q → Fewer d ((q - t) / (36 - t))
+unfolding Fewer tens
+fewer-next e d q t p h v =
+    let w : q < 10 * tens d = rw p at v in
+    let m = mul-le-mul-left {m = 10} {n = 36 - t} (tens d) (omega arith) in
+    div-lt-iff-lt-mul {k = 36 - t} {x = q - t} {y = tens d} (omega arith) .1 (omega arith)
+
+pub clip-last : (out : List ℕ) (end : ℕ) (total : List ℕ) → 64 ≤ end → take 64 (take end out) ≡ total → take 64 out ≡ total
+clip-last out end total h e = sym (take-take 64 end out h) ∙ e
 
 -- ---- the coder's state
 

@@ -250,7 +250,7 @@ fn encodes(l: &[u32], low: &[u8]) -> bool
     if !encodable(l) {
         return false;
     }
-    let mut text = [0u8; 64];
+    let mut text = [0u8; 80];
     let m = ace(l, &mut text);
     check::same(&text[0..m], low)
 }

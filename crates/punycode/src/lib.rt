@@ -51,7 +51,7 @@ pub fn encode(label: &[u32], out: &mut [u8]) -> Coded
     if !label::encodable(label) {
         return refused(UNFIT);
     }
-    let mut text = [0u8; 64];
+    let mut text = [0u8; 80];
     let n = coder::ace(label, &mut text);
     if n > ROOM {
         return refused(LONG);
