@@ -109,6 +109,16 @@ lent-name codes before after n e f g =
     let k : n - 0 ≡ length (take 257 codes) = omega (arith, length-take 257 codes) in
     ap (take (n - 0)) f ∙ rw e (rw k (take-at (take 257 codes) _ (length (take 257 codes)) refl))
 
+-- and of one that has room: all of it
+pub lent-short : (codes before after : List ℕ) (n : ℕ) → length before ≡ 64 → after ≡ written (take (length before) codes) before → n ≡ length codes
+    → n ≤ 64 → take (n - 0) after ≡ take 257 codes
+unfolding written
+lent-short codes before after n e f g h =
+    let k : n - 0 ≡ length codes = omega arith in
+    let small : take 64 codes ≡ codes = take-all 64 codes (omega arith) in
+    let all : take 257 codes ≡ codes = take-all 257 codes (omega arith) in
+    ap (take (n - 0)) f ∙ rw (e, small, all, k) (take-at codes _ (length codes) refl)
+
 module _ (P : Permits) (id name : List ℕ) where
   pub bad-id : goodId id ≡ false → fieldsAnswer P id name ≡ badAnswer
   unfolding fieldsAnswer

@@ -1,7 +1,7 @@
 -- No answer is longer than 256 bytes: an id has at most 32, number and place three digits each, and the ASCII form of an accepted
 -- name is two or three labels of at most 63 octets each.
 -- Assumes nothing.
-use mathlib.Core.Path.{_≡_, refl, sym, ap}
+use mathlib.Core.Path.{_≡_, refl, sym}
 use mathlib.Core.Bool.{Bool, true, false, not}
 use mathlib.Core.List.{List, [], _∷_, _++_, map}
 use Prim.Native.Nat.{ℕ, _+_, _*_, _≤_}
@@ -10,22 +10,21 @@ use lib.Dec.{eqb, ltb}
 use lib.ListN.{length, replicate, length-append}
 use borrow.Author.Tests.{eqb-true, not-false}
 use Rattle.lists.specs.Tests.{pick, allOf, anyOf}
-use Rattle.lists.specs.Rows.{Row, Answer, first}
+use Rattle.lists.specs.Rows.{Row, first}
 use Rattle.lists.proofs.Laws.{both, neither}
-use Rattle.lists.proofs.Tables.{Clear, clear, refusing, accepted-clear}
+use Rattle.lists.proofs.Tables.{Clear, refusing, accepted-clear}
 use Rattle.normal.specs.Normal.{normalForm}
 use Rattle.rules.specs.Labels.{labels, join}
 use Rattle.rules.specs.Permits.{Permits}
-use Rattle.rules.specs.Rules.{isJapanese, labelRows, nameRows, textRows, verdict, rules}
+use Rattle.rules.specs.Rules.{isJapanese, labelRows, nameRows, textRows, verdict}
 use Rattle.rules.specs.Editions.{todayWith}
 use Rattle.rules.specs.declared.Class.{Class}
 use Rattle.rules.specs.declared.Class.the-variants.{None}
 use Rattle.rules.specs.declared.Verdict.{Verdict}
-use Rattle.names.specs.Calls.{judged, asciiLabel, asciiForm, uncoded, asciiRows}
+use Rattle.names.specs.Calls.{asciiLabel, asciiForm, uncoded, asciiRows}
 use Rattle.names.specs.Steps.{writable}
-use Rattle.names.proofs.Answering.{passed}
 use Rattle.names.proofs.Joining.{plain-fits, coded-fits, coded-yes}
-use Rattle.names.proofs.Enough.{ready}
+use Rattle.names.proofs.Enough.{accepted-writable}
 use Rattle.batch.specs.Utf8.{decoded}
 use Rattle.batch.specs.Answer.{idOf, nameOf, oneTab, goodId, badLine, answerLine, badAnswer, goodAnswer, answerTo}
 use Rattle.batch.proofs.LineFields.{id-length}
@@ -91,16 +90,13 @@ unfolding refusing allOf asciiRows textRows nameRows labelRows
 all-refuse P text = refl
 
 form-short : (table text : List ℕ) → first (asciiRows (todayWith table) text 192) .number ≡ 0 → length (asciiForm (todayWith table) (normalForm text)) ≤ 192
-unfolding asciiRows asciiForm judged rules verdict
+unfolding asciiRows asciiForm
 form-short table text e =
     let P : Permits = todayWith table in
     let c = accepted-clear (asciiRows P text 192) (all-refuse P text) e in
-    let z : judged P text .number ≡ 0 = ap (λ (a : Answer). a .number) (clear (textRows P text) (clear-front (textRows P text) _ (c .1))) in
-    let f = passed P text refl z .form in
-    let w = ready table text refl z in
-    let k = joined-short P (labels (normalForm text)) (rw f at (w .fit)) (clear-back (textRows P text) _ (c .1) .0) in
-    let n : 64 * length (labels (normalForm text)) ≤ 192 = rw f at (w .few) in
-    omega (arith, k, n)
+    let w = accepted-writable table text (clear-front (textRows P text) _ (c .1)) in
+    let k = joined-short P (labels (normalForm text)) (w .fit) (clear-back (textRows P text) _ (c .1) .0) in
+    omega (arith, k, w .few)
 
 -- ---- the answer
 

@@ -150,8 +150,8 @@ fn lent(count: usize) -> usize
     if count < 257 { count } else { 257 }
 }
 
-// Puts the answer to a line with these two fields.
-fn put_fields(kanji: &[u32], id: &[u8], name: &[u8], out: &mut [u8]) -> usize
+// Puts the answer to a line with these two fields, the name being of any length.
+fn put_any(kanji: &[u32], id: &[u8], name: &[u8], out: &mut [u8]) -> usize
     requires { ⌜ 256 ≤ length (now out) ⌝ }
     ensures { λ r. ⌜ PutsAt (fieldsAnswer (todayWith (now (kanji .entry))) (now (id .entry)) (now (name .entry))) (now (out .entry)) (now (out .exit)) 0 r ⌝ }
 {
@@ -164,6 +164,26 @@ fn put_fields(kanji: &[u32], id: &[u8], name: &[u8], out: &mut [u8]) -> usize
         return put_bad(out);
     }
     let n = lent(decoded.count);
+    put_text(kanji, id, &text[0..n], out)
+}
+
+// Puts the answer to a line with these two fields. Most names have room in a small buffer, and the others are decoded again.
+fn put_fields(kanji: &[u32], id: &[u8], name: &[u8], out: &mut [u8]) -> usize
+    requires { ⌜ 256 ≤ length (now out) ⌝ }
+    ensures { λ r. ⌜ PutsAt (fieldsAnswer (todayWith (now (kanji .entry))) (now (id .entry)) (now (name .entry))) (now (out .entry)) (now (out .exit)) 0 r ⌝ }
+{
+    if !is_id(id) {
+        return put_bad(out);
+    }
+    let mut text = [0u32; 64];
+    let decoded = decode(name, &mut text);
+    if !decoded.ok {
+        return put_bad(out);
+    }
+    let n = decoded.count;
+    if 64 < n {
+        return put_any(kanji, id, name, out);
+    }
     put_text(kanji, id, &text[0..n], out)
 }
 

@@ -80,15 +80,17 @@ jp-writable : (P : Permits) → writable P jp ≡ true
 unfolding writable jp allOf octet
 jp-writable P = or-right (isJapanese P (0x6A ∷ 0x70 ∷ [])) true refl
 
+pub accepted-writable : (table text : List ℕ) → Clear (textRows (todayWith table) text) → Writable (todayWith table) (normalForm text) 192
+unfolding todayWith
+accepted-writable table text c =
+    let P = todayWith table in
+    let w = each-label P (writable P) (λ l a k. label-writable P l a (left-size P l k))
+    (λ l a m. label-writable P l a (λ q. let h = middle-size l m in omega arith)) (jp-writable P) text c in
+    record { fit = w .0; few = omega (arith, w .1) }
+
 pub ready : (table text : List ℕ) {lent after : List ℕ} {j : Checked} → Judges (todayWith table) text lent after j → j .number ≡ 0
     → Writable (todayWith table) (take (j .length - 0) (drop 0 after)) 192
-unfolding todayWith
-ready table text e z =
-    let P = todayWith table in
-    let p = passed P text e z in
-    let w = each-label P (writable P) (λ l a k. label-writable P l a (left-size P l k))
-    (λ l a m. label-writable P l a (λ q. let h = middle-size l m in omega arith)) (jp-writable P) text (p .clear) in
-    rw (p .form) (record { fit = w .0; few = omega (arith, w .1) })
+ready table text e z = let p = passed (todayWith table) text e z in rw (p .form) (accepted-writable table text (p .clear))
 
 -- ---- what is put is the form
 
