@@ -1,7 +1,8 @@
 // Which labels are encoded.
 ghost use mathlib.Core.Path.{_≡_};
-ghost use lib.Dec.{leb};
-ghost use Rattle.lists.specs.Tests.{allOf, anyOf};
+ghost use mathlib.Core.Bool.{_&&_};
+ghost use lib.Dec.{leb, ltb};
+ghost use Rattle.lists.specs.Tests.{allOf, anyOf, within};
 ghost use Rattle.punycode.specs.Punycode;
 
 fn alnum(c: u32) -> bool
@@ -78,6 +79,27 @@ fn any_high(l: &[u32]) -> bool
     false
 }
 
+// How far above 80 the highest is: top so far, and c now. A c below 80 wraps, and is further than any.
+fn higher(c: u32, top: u32) -> u32
+    ensures { λ r. ⌜ ltb r 0xD780 ≡ (ltb top 0xD780 && within 0x80 0xD7FF c) ⌝ }
+{
+    let d = std::num::wrapping_sub_u32(c, 0x80);
+    if top < d { d } else { top }
+}
+
+// Is each one from 80 to D7FF, as most are?
+fn plain(l: &[u32]) -> bool
+    ensures { λ r. ⌜ r ≡ allOf (within 0x80 0xD7FF) (now (l .entry)) ⌝ }
+{
+    let mut top = 0;
+    let mut j = 0;
+    while j < l.len() {
+        top = higher(l[j], top);
+        j = j + 1;
+    }
+    top < 0xD780
+}
+
 pub(crate) fn encodable(l: &[u32]) -> bool
     ensures { λ r. ⌜ r ≡ Punycode.encodable (now (l .entry)) ⌝ }
 {
@@ -86,6 +108,9 @@ pub(crate) fn encodable(l: &[u32]) -> bool
     }
     if l.len() > 63 {
         return false;
+    }
+    if plain(l) {
+        return true;
     }
     if !all_allowed(l) {
         return false;
