@@ -128,7 +128,8 @@ pub fn judge_into(kanji: &[u32], text: &[u32], form: &mut [u32]) -> Checked
             length,
         };
     }
-    let k = first_unfit(kanji, &form[0..length]);
+    let whole: &[u32] = &form[0..length];
+    let k = first_unfit(kanji, whole);
     if k < length {
         return Checked {
             number: 4,
@@ -137,7 +138,7 @@ pub fn judge_into(kanji: &[u32], text: &[u32], form: &mut [u32]) -> Checked
             length,
         };
     }
-    let verdict = name_rules(kanji, &form[0..length]);
+    let verdict = name_rules(kanji, whole);
     let class = verdict.class;
     Checked {
         number: verdict.number,
