@@ -135,7 +135,8 @@ pub(crate) fn judge_into(kanji: &[u32], text: &[u32], form: &mut [u32]) -> Check
             length,
         };
     }
-    let k = first_unfit(kanji, &form[0..length]);
+    let whole: &[u32] = &form[0..length];
+    let k = first_unfit(kanji, whole);
     if k < length {
         return Checked {
             number: UNFIT,
@@ -144,7 +145,7 @@ pub(crate) fn judge_into(kanji: &[u32], text: &[u32], form: &mut [u32]) -> Check
             length,
         };
     }
-    let verdict = name_rules(kanji, &form[0..length]);
+    let verdict = name_rules(kanji, whole);
     let class = verdict.class;
     Checked {
         number: verdict.number,

@@ -15,14 +15,14 @@ same-length c = search needs
 returns : tie.Need-returns
 returns c = judges-sizes _ (c .before .before .before .before .before .before .before .before .before .pre) (c .before .before .before .before .normal-form .ensures) (c .if1 .taken)
 
-sub-first-unfit : tie.Need-sub-first-unfit
-sub-first-unfit c = search needs
+sub-whole : tie.Need-sub-whole
+sub-whole c = search needs
 
-part-first-unfit-start : tie.Need-part-first-unfit-start
-part-first-unfit-start c = search needs
+part-whole-start : tie.Need-part-whole-start
+part-whole-start c = search needs
 
-part-first-unfit-end : tie.Need-part-first-unfit-end
-part-first-unfit-end c = let h = in-buffer (c .before .before .before .before .before .before .before .before .before .before .pre) (c .before .before .before .before .before .normal-form .ensures) (c .before .if1 .left) in omega (arith, c .before .before .before .before .before .normal-form .kept .1 .0, c .before .before .before .before .before .before .before .before .before .before .pre)
+part-whole-end : tie.Need-part-whole-end
+part-whole-end c = let h = in-buffer (c .before .before .before .before .before .before .before .before .before .before .pre) (c .before .before .before .before .before .normal-form .ensures) (c .before .if1 .left) in omega (arith, c .before .before .before .before .before .normal-form .kept .1 .0, c .before .before .before .before .before .before .before .before .before .before .pre)
 
 first-unfit-requires : tie.Need-first-unfit-requires
 first-unfit-requires c κs = search needs
@@ -36,23 +36,14 @@ same-length-2 c = search needs
 returns-2 : tie.Need-returns-2
 returns-2 c = judges-unfit _ (c .before .before .before .before .before .before .before .before .before .before .before .before .before .before .pre) (c .before .before .before .before .before .before .before .before .before .normal-form .ensures) (c .before .before .before .before .before .if1 .left) (c .before .before .first-unfit .ensures) (c .before .if2 .taken) (c .place-of .ensures)
 
-sub-name-rules : tie.Need-sub-name-rules
-sub-name-rules c = search needs
-
-part-name-rules-start : tie.Need-part-name-rules-start
-part-name-rules-start c = search needs
-
-part-name-rules-end : tie.Need-part-name-rules-end
-part-name-rules-end c = let h = in-buffer (c .before .before .before .before .before .before .before .before .before .before .before .before .before .before .pre) (c .before .before .before .before .before .before .before .before .before .normal-form .ensures) (c .before .before .before .before .before .if1 .left) in omega (arith, c .before .before .before .before .before .before .before .before .before .normal-form .kept .1 .0, c .before .before .before .before .before .before .before .before .before .before .before .before .before .before .pre)
-
 name-rules-requires : tie.Need-name-rules-requires
-name-rules-requires c κs = form-fit _ (c .before .before .before .before .before .before .before .before .before .before .before .before .before .before .before .pre) (c .before .before .before .before .before .before .before .before .before .before .normal-form .ensures) (c .before .before .before .before .before .before .if1 .left) (c .before .before .before .first-unfit .ensures) (c .before .before .if2 .left)
+name-rules-requires c κs = form-fit _ (c .before .before .before .before .before .before .before .before .before .before .before .before .before .pre) (c .before .before .before .before .before .before .before .before .normal-form .ensures) (c .before .before .before .before .if1 .left) (c .before .first-unfit .ensures) (c .if2 .left)
 
 same-length-3 : tie.Need-same-length-3
 same-length-3 c = search needs
 
 returns-3 : tie.Need-returns-3
-returns-3 c = judges-fit _ (c .before .before .before .before .before .before .before .before .before .before .before .before .before .before .before .before .pre) (c .before .before .before .before .before .before .before .before .before .before .before .normal-form .ensures) (c .before .before .before .before .before .before .before .if1 .left) (c .before .before .before .before .first-unfit .ensures) (c .before .before .before .if2 .left) (c .name-rules .ensures)
+returns-3 c = judges-fit _ (c .before .before .before .before .before .before .before .before .before .before .before .before .before .before .pre) (c .before .before .before .before .before .before .before .before .before .normal-form .ensures) (c .before .before .before .before .before .if1 .left) (c .before .before .first-unfit .ensures) (c .before .if2 .left) (c .name-rules .ensures)
 
 pub judge-into-spec : {M : Type 1} → statement M
 judge-into-spec =
@@ -61,16 +52,13 @@ judge-into-spec =
     normal-form-requires
     same-length
     returns
-    sub-first-unfit
-    part-first-unfit-start
-    part-first-unfit-end
+    sub-whole
+    part-whole-start
+    part-whole-end
     first-unfit-requires
     place-of-requires
     same-length-2
     returns-2
-    sub-name-rules
-    part-name-rules-start
-    part-name-rules-end
     name-rules-requires
     same-length-3
     returns-3)
