@@ -1,12 +1,12 @@
 -- What is written to the start of a buffer: read back, and made by a loop that copies.
 -- Assumes nothing.
-use mathlib.Core.Path.{_≡_, refl, sym, ap, _∙_}
-use mathlib.Core.List.{List, [], _∷_, _++_}
+use mathlib.Core.Path.{_≡_, refl, sym, _∙_}
+use mathlib.Core.List.{List, [], _++_}
 use mathlib.Core.Logic.{⊎-elim}
-use Prim.Native.Nat.{ℕ, suc, _+_, _-_, _≤_, _<_, min}
+use Prim.Native.Nat.{ℕ, suc, _+_, _-_, _<_, min}
 use native.Mathlib.Numerals.{add-one}
 use native.Mathlib.Omega.{arith}
-use lib.ListN.{length, take, drop, getD, set, length-take, length-append, length-drop}
+use lib.ListN.{length, take, drop, getD, set}
 use lib.Seq.{take-at, drop-at, take-all, take-suc, drop-cons, set-at, append-snoc, length-take-le}
 use Rattle.lists.specs.Front.{written}
 use Rattle.lists.proofs.Laws.{lt-or-le}
@@ -24,10 +24,6 @@ module _ (xs before : List ℕ) where
   pub rest : drop (length xs) (written xs before) ≡ drop (length xs) before
   unfolding written
   rest = drop-at xs (drop (length xs) before) (length xs) refl
-
-  pub written-length : length xs ≤ length before → length (written xs before) ≡ length before
-  unfolding written
-  written-length h = omega (arith, length-append xs (drop (length xs) before), length-drop (length xs) before)
 
 -- ---- the loop of a copy
 

@@ -1,15 +1,14 @@
 -- What a test that comes out true, or false, says: on Bools, on ranges, on lists.
 -- Assumes nothing.
-use mathlib.Core.Path.{_≡_, refl, sym, ap, _∙_}
-use mathlib.Core.Bool.{Bool, true, false, not, _&&_, _||_, true≢false, false≢true}
+use mathlib.Core.Path.{_≡_, refl, sym, _∙_}
+use mathlib.Core.Bool.{Bool, true, false, _&&_, _||_, true≢false, false≢true}
 use mathlib.Core.List.{List, [], _∷_, _++_}
 use mathlib.Core.Logic.{_⊎_, inl, inr, ⊎-elim}
 use Prim.Native.Nat.{ℕ, zero, suc, _≤_, _<_}
 use native.Mathlib.Omega.{arith}
-use lib.Dec.{eqb, leb, ltb}
-use lib.ListN.{length}
-use borrow.Author.Tests.{le-leb, leb-true, leb-false, eqb-true, eq-eqb}
-use Rattle.lists.specs.Tests.{pick, within, allOf, anyOf, firstOf, elem, same}
+use lib.Dec.{eqb, leb}
+use borrow.Author.Tests.{le-leb, leb-true, eqb-true, eq-eqb}
+use Rattle.lists.specs.Tests.{within, allOf, anyOf, elem, same}
 
 -- ---- conjunction and disjunction
 

@@ -1,9 +1,9 @@
 -- In a table that rises, halving finds exactly what is there: what stands in the middle settles all on one side of it.
 -- Assumes nothing.
-use mathlib.Core.Path.{_≡_, refl, sym, ap, _∙_}
-use mathlib.Core.Bool.{Bool, true, false, _&&_, _||_}
+use mathlib.Core.Path.{_≡_, refl, sym, _∙_}
+use mathlib.Core.Bool.{Bool, true, false}
 use mathlib.Core.List.{List, [], _∷_}
-use mathlib.Core.Logic.{_⊎_, inl, inr, ⊎-elim}
+use mathlib.Core.Logic.{_⊎_, ⊎-elim}
 use Prim.Native.Nat.{ℕ, zero, suc, _+_, _-_, _/_, _≤_, _<_}
 use native.Mathlib.Nat.{eq-or-lt-of-le, le-of-suc-le-suc, not-suc-le-zero, lt-trans}
 use native.Mathlib.Omega.{arith}
@@ -11,7 +11,7 @@ use lib.Arith.{lt-of-le-ne}
 use lib.Dec.{eqb, ltb}
 use lib.ListN.{length, getD}
 use borrow.Author.Tests.{eq-eqb, ne-eqb, lt-ltb, le-ltb, ltb-true, ltb-false, eqb-true, eqb-false}
-use Rattle.lists.specs.Tests.{pick, anyOf, elem, above, rising}
+use Rattle.lists.specs.Tests.{anyOf, elem, above, rising}
 use Rattle.lists.specs.Halving.{halving, halvingFrom}
 use Rattle.lists.proofs.Laws.{both, lt-or-le, or-right}
 
@@ -59,9 +59,6 @@ absent c (x ∷ xs) f =
 -- ---- one step of the search, for any table
 
 module _ (f c : ℕ) (xs : List ℕ) (lo hi : ℕ) where
-  abbrev middle : ℕ
-  middle = lo + (hi - lo) / 2
-
   pub step-none : hi ≤ lo → halvingFrom (suc f) c xs lo hi ≡ false
   unfolding halvingFrom
   step-none h = simp (le-ltb lo hi h)

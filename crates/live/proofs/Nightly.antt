@@ -1,21 +1,19 @@
 -- What the live check shows after any code points is what the nightly rules say of them: the argument over any rules (Typing), at
 -- the rules of a name.
 -- Assumes nothing.
-use mathlib.Core.Path.{_≡_, refl, sym, ap, _∙_}
-use mathlib.Core.List.{List, []}
+use mathlib.Core.Path.{_≡_, ap, _∙_}
+use mathlib.Core.List.{List}
 use Prim.Native.Nat.{ℕ, _≤_, _<_}
 use native.Mathlib.Omega.{arith}
-use lib.Dec.{eqb, ltb}
 use lib.ListN.{length}
 use borrow.Author.Tests.{lt-ltb, le-ltb, ne-eqb}
-use Rattle.lists.specs.Tests.{pick}
 use Rattle.lists.specs.Rows.{first}
 use Rattle.normal.specs.Normal.{normalForm}
 use Rattle.rules.specs.Permits.{Permits}
 use Rattle.rules.specs.Rules.{textRows, verdict, rules}
 use Rattle.names.specs.Calls.{shown, padded, judged}
 use Rattle.names.specs.declared.Judged.{Judged}
-use Rattle.live.specs.Live.{fresh, typed, lookedBy, tooLong, looked}
+use Rattle.live.specs.Live.{fresh, typed, tooLong, looked}
 use Rattle.live.proofs.Typing.{live-is}
 
 module _ (P : Permits) where

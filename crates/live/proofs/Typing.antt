@@ -7,11 +7,9 @@ use mathlib.Core.Logic.{_⊎_, inl, inr, ⊎-elim}
 use Prim.Native.Nat.{ℕ, suc, _+_, _≤_, _<_}
 use native.Mathlib.Numerals.{add-one}
 use native.Mathlib.Omega.{arith}
-use lib.Dec.{ltb}
-use lib.ListN.{length, take, set, replicate, length-set, length-replicate, length-append}
+use lib.ListN.{length, take, length-set, length-replicate, length-append}
 use lib.Seq.{take-suc-set, append-snoc}
 use borrow.Author.Tests.{lt-ltb, le-ltb}
-use Rattle.lists.specs.Tests.{pick}
 use Rattle.lists.proofs.Laws.{lt-or-le}
 use Rattle.live.specs.Live.{fresh, stepped, typed, lookedBy}
 use Rattle.live.specs.declared.Live.{Live}

@@ -17,7 +17,7 @@ use Rattle.rules.specs.Rules.{unfit}
 use Rattle.rules.specs.Editions.{isPrefecture, todayWith}
 use Rattle.rules.specs.declared.Verdict.{Verdict}
 use Rattle.rules.proofs.Views.{and-false}
-use Rattle.rules.proofs.Cuts.{Labelled, none, cut, held, labelled, labels-fit, ended, last-from, first-from}
+use Rattle.rules.proofs.Cuts.{Labelled, none, cut, held, labelled, labels-fit, last-from, first-from}
 use Rattle.rules.proofs.Steps.{empty-is, name-5, name-6}
 use Rattle.names.specs.Steps.{byLabels, refusal}
 
@@ -95,9 +95,6 @@ module _ (P : Permits) (t : List ℕ) (a : ℕ) (sa : a ≡ 0 + firstOf period (
       (ap (allOf (allOf (labelChar P))) (sym (first-from t 0 a (omega arith) sa ka)) ∙ labels-fit P t u) .0
 
   module _ (ka : a < length t) (b : ℕ) (sb : b ≡ a + 1 + firstOf period (drop (a + 1) t)) where
-    pub second-end : (a + 1 ≤ b) × (b ≤ length t)
-    second-end = ended t (a + 1) b (omega arith) sb
-
     one : labels t ≡ take (a - 0) (drop 0 t) ∷ labels (drop (a + 1) t)
     one = first-from t 0 a (omega arith) sa ka
 

@@ -1,5 +1,5 @@
 -- What the calls on a name answer, and what they leave in the buffer that is lent to them: document 01, 'Numbers a call may answer'.
-use mathlib.Core.Bool.{Bool, true, false, not, _&&_}
+use mathlib.Core.Bool.{Bool, not, _&&_}
 use mathlib.Core.List.{List, [], _∷_, _++_, map}
 use mathlib.Core.Path.{_≡_}
 use Prim.Native.Nat.{ℕ, _-_}
@@ -7,14 +7,13 @@ use lib.Dec.{eqb, ltb}
 use lib.ListN.{length, replicate}
 use Rattle.lists.specs.Tests.{pick, anyOf}
 use Rattle.lists.specs.Front.{written}
-use Rattle.lists.specs.Rows.{Row, row, Answer, first, given}
+use Rattle.lists.specs.Rows.{Row, row, first, given}
 use Rattle.normal.specs.Normal.{normalForm}
 use Rattle.punycode.specs.Punycode.{ace}
 use Rattle.punycode.specs.Calls.{coderNumber}
 use Rattle.rules.specs.Labels.{labels, join}
 use Rattle.rules.specs.Permits.{Permits}
 use Rattle.rules.specs.Rules.{isJapanese, textRows, verdict, rules}
-use Rattle.rules.specs.declared.Verdict.{Verdict}
 use Rattle.names.specs.declared.Judged.{Judged}
 use Rattle.names.specs.declared.Checked.{Checked}
 

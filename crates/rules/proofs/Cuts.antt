@@ -8,7 +8,7 @@ use Prim.Native.Nat.{ℕ, suc, _+_, _-_, _≤_, _<_}
 use native.Mathlib.Numerals.{add-one}
 use native.Mathlib.Omega.{arith}
 use lib.ListN.{length, take, drop, length-drop}
-use lib.Seq.{drop-drop, length-take-le}
+use lib.Seq.{drop-drop}
 use borrow.Author.Tests.{eqb-true, not-false}
 use Rattle.lists.specs.Tests.{pick, allOf, anyOf, firstOf}
 use Rattle.lists.proofs.Laws.{neither}
@@ -136,6 +136,3 @@ module _ (t : List ℕ) (i e : ℕ) (h : i ≤ length t) (s : e ≡ i + firstOf 
         let m : i + (e - i + 1) ≡ e + 1 = omega arith in
         let d : drop (e - i + 1) (drop i t) ≡ drop (e + 1) t = drop-drop (e - i + 1) i t ∙ ap (λ (j : ℕ). drop j t) m in
         first-label (drop i t) (omega (arith, length-drop i t)) ∙ rw (n, d)
-
-    pub first-length : length (take (e - i) (drop i t)) ≡ e - i
-    first-length = length-take-le (e - i) (drop i t) (omega (arith, length-drop i t))

@@ -15,7 +15,7 @@ use Rattle.characters.specs.Kanji.{kanji}
 use Rattle.characters.proofs.Bounds.{with-below}
 use Rattle.characters.proofs.Lent as Lent
 use Rattle.characters.specs.Characters.{alnum, hyphen, asciiSet, hiragana, katakana, signs, japaneseBy, japanese}
-use Rattle.rules.specs.Permits.{Permits, Laws, labelChar, isEmpty}
+use Rattle.rules.specs.Permits.{Laws, labelChar, isEmpty}
 use Rattle.rules.specs.Prefectures.{prefectures}
 use Rattle.rules.specs.Editions.{isPrefecture, today, todayWith}
 use Rattle.rules.proofs.Views.{Cut, cut, cut-at}

@@ -1,5 +1,5 @@
 -- The rules of a name: document 01's table, 'Numbers a call may answer', 2 to 12, a row each; the first that applies is given.
-use mathlib.Core.Bool.{Bool, true, false, not, _&&_, _||_}
+use mathlib.Core.Bool.{Bool, false, not, _&&_, _||_}
 use mathlib.Core.List.{List, [], _∷_, _++_}
 use Prim.Native.Nat.{ℕ, _-_}
 use lib.Dec.{eqb, ltb}

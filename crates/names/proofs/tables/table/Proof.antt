@@ -2,7 +2,6 @@
 -- Assumes nothing.
 use mathlib.Core.Path.{refl}
 use Rattle.characters.specs.Kanji.{kanji}
-use borrow.Author.Needs.{needs}
 use Rattle.names.proofs.tables.table.Statement.{statement}
 use Rattle.names.proofs.tables.table.Tie as tie
 
