@@ -7,8 +7,8 @@ import sys
 
 count = int(sys.argv[1])
 bare = '--bare' in sys.argv
-table = pathlib.Path(__file__).resolve().parent.parent / 'crates/characters/src/kanji.rt'
-kanji = [int(x, 16) for x in re.findall(r'0x([0-9A-F]+),', table.read_text(encoding='utf-8'))]
+table = pathlib.Path(__file__).resolve().parent.parent / 'crates/characters/specs/Kanji.antt'
+kanji = [int(x, 16) for x in re.findall(r'0x([0-9A-F]+)', table.read_text(encoding='utf-8'))]
 kana = list(range(0x3041, 0x3094)) + list(range(0x30A1, 0x30F7))
 pick = random.Random(3492)
 for i in range(count):

@@ -6,7 +6,6 @@ use mathlib.Core.List.{List}
 use Prim.Native.Nat.{ℕ, _≤_, _<_}
 use native.Mathlib.Omega.{arith}
 use Rattle.lists.specs.Tests.{within, allOf, elem}
-use Rattle.lists.specs.Halving.{halving}
 use Rattle.lists.proofs.Laws.{both, inside, in-range, in-table}
 use Rattle.characters.specs.Characters.{hiragana, katakana, signs, japaneseBy, kanjiWith, japaneseWith}
 
@@ -40,7 +39,7 @@ module _ (isKanji : ℕ → Bool) (c : ℕ) (bound : isKanji c ≡ true → with
 module _ (table : List ℕ) (c : ℕ) where
   lent-bound : kanjiWith table c ≡ true → within 0x3005 0x9FA0 c ≡ true
   unfolding kanjiWith
-  lent-bound e = narrower 0x4E00 0x9FA0 c (omega arith) (omega arith) (both (within 0x4E00 0x9FA0 c) (halving c table) e .0)
+  lent-bound e = narrower 0x4E00 0x9FA0 c (omega arith) (omega arith) (both (within 0x4E00 0x9FA0 c) _ e .0)
 
   pub with-bounds : japaneseWith table c ≡ true → within 0x3005 0x9FA0 c ≡ true
   unfolding japaneseWith

@@ -1,14 +1,17 @@
--- Of the kanji themselves, the table that is lent says what the list says: they rise, so halving finds exactly what is there.
+-- The bits of the kanji, lent as a table, say what the list says: the numbers of the bits that are set are the list, by computation.
 -- Assumes nothing.
-use mathlib.Core.Path.{_≡_, refl}
-use mathlib.Core.Bool.{Bool, true, false, _&&_, and-false}
-use Prim.Native.Nat.{ℕ, _<_}
+use mathlib.Core.Path.{_≡_, refl, sym, ap, _∙_}
+use mathlib.Core.Bool.{Bool, true, false, _&&_}
+use Prim.Native.Nat.{ℕ, _-_, _/_, _%_, _<_}
+use native.Mathlib.Omega.{arith}
 use lib.ListN.{length, getD}
 use Rattle.lists.specs.Tests.{within, allOf, anyOf, elem, above, rising}
-use Rattle.lists.proofs.Laws.{in-table}
-use Rattle.lists.proofs.Rising.{rises, halving-is-elem}
+use Rattle.lists.proofs.Laws.{in-table, in-range, clash}
+use Rattle.lists.proofs.Rising.{rises}
 use Rattle.characters.specs.Kanji.{kanji}
-use Rattle.characters.specs.Characters.{japaneseBy, japanese, kanjiWith, japaneseWith}
+use Rattle.characters.specs.KanjiBits.{kanjiBits}
+use Rattle.characters.specs.Characters.{japaneseBy, japanese, bitSet, kanjiWith, japaneseWith}
+use Rattle.characters.proofs.Bits.{numbered, unpacked, in-unpacked}
 
 pub kanji-length : length kanji ≡ 6355
 unfolding kanji
@@ -32,17 +35,25 @@ kanji-within : allOf (within 0x4E00 0x9FA0) kanji ≡ true
 unfolding kanji allOf within
 kanji-within = refl
 
-kanji-bound : (c : ℕ) → elem c kanji ≡ true → within 0x4E00 0x9FA0 c ≡ true
-kanji-bound c e = in-table (within 0x4E00 0x9FA0) c kanji kanji-within e
+-- the bits that are set, in order
+pub kanji-bits : unpacked 0x4E00 kanjiBits ≡ kanji
+unfolding kanji kanjiBits unpacked numbered
+kanji-bits = refl
 
-same-kanji : (c : ℕ) → kanjiWith kanji c ≡ elem c kanji
+pub same-kanji : (c : ℕ) → kanjiWith kanjiBits c ≡ elem c kanji
 unfolding kanjiWith
-same-kanji c = rw (halving-is-elem c kanji kanji-rise) (go (elem c kanji) refl)
+same-kanji c = go (within 0x4E00 0x9FA0 c) refl (elem c kanji) refl
   where
-    go : (b : Bool) → elem c kanji ≡ b → within 0x4E00 0x9FA0 c && b ≡ b
-    go true p = rw (kanji-bound c p)
-    go false p = and-false (within 0x4E00 0x9FA0 c)
+    bit : Bool
+    bit = bitSet (getD kanjiBits ((c - 0x4E00) / 32) 0) ((c - 0x4E00) % 32)
 
-pub lent : (c : ℕ) → japaneseWith kanji c ≡ japanese c
+    go : (t : Bool) → within 0x4E00 0x9FA0 c ≡ t → (b : Bool) → elem c kanji ≡ b → within 0x4E00 0x9FA0 c && bit ≡ elem c kanji
+    go true p b q =
+        let h = in-range 0x4E00 0x9FA0 c p in
+        rw p (sym (in-unpacked c 0x4E00 (c - 0x4E00) kanjiBits (omega arith)) ∙ ap (elem c) kanji-bits)
+    go false p true q = clash (in-table (within 0x4E00 0x9FA0) c kanji kanji-within q) p
+    go false p false q = rw p (sym q)
+
+pub lent : (c : ℕ) → japaneseWith kanjiBits c ≡ japanese c
 unfolding japaneseBy japanese japaneseWith
 lent c = rw (same-kanji c)

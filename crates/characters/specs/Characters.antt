@@ -1,10 +1,10 @@
 -- Which code point is what: document 01, 'Characters'. A code point is any 32-bit number.
 use mathlib.Core.Bool.{Bool, _&&_, _||_}
 use mathlib.Core.List.{List, [], _∷_}
-use Prim.Native.Nat.{ℕ}
+use Prim.Native.Nat.{ℕ, _-_, _/_, _%_, _^_}
 use lib.Dec.{eqb}
+use lib.ListN.{getD}
 use Rattle.lists.specs.Tests.{within, elem}
-use Rattle.lists.specs.Halving.{halving}
 use Rattle.characters.specs.Kanji.{kanji}
 
 -- ASCII set: letters, digits, hyphen 2D. Letters are in lower case, as the normal form has them
@@ -34,9 +34,14 @@ japaneseBy isKanji c = hiragana c || (katakana c || (elem c signs || isKanji c))
 unfoldable pub japanese : ℕ → Bool
 japanese c = japaneseBy (λ x. elem x kanji) c
 
--- the same, of a table that is lent for the kanji, which stand from 4E00 to 9FA0; of the kanji themselves it is `japanese` (proofs/Lent)
+-- bit k of a word, counted from the lowest, is set
+abbrev pub bitSet : ℕ → ℕ → Bool
+bitSet w k = eqb (w / 2 ^ k % 2) 1
+
+-- the same, of a table that is lent for the kanji: one bit for each code point from 4E00 to 9FA0, 32 to a word; where the table is too
+-- short it has none. Of the bits of the kanji themselves it is `japanese` (proofs/Lent)
 unfoldable pub kanjiWith : List ℕ → ℕ → Bool
-kanjiWith table c = within 0x4E00 0x9FA0 c && halving c table
+kanjiWith table c = within 0x4E00 0x9FA0 c && bitSet (getD table ((c - 0x4E00) / 32) 0) ((c - 0x4E00) % 32)
 
 unfoldable pub japaneseWith : List ℕ → ℕ → Bool
 japaneseWith table c = japaneseBy (kanjiWith table) c

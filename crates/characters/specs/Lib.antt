@@ -1,4 +1,5 @@
 pub mod Kanji
+pub mod KanjiBits
 pub mod Characters
 pub mod Replace
 pub mod Compose

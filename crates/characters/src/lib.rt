@@ -9,7 +9,7 @@ ghost use Prim.Native.Nat.{_+_, _<_};
 ghost use lib.Dec.{ltb};
 ghost use lib.ListN.{getD};
 ghost use Rattle.lists.specs.Tests.{pick, within, elem};
-ghost use Rattle.characters.specs.Characters.{alnum, asciiSet, signs, japanese, kanjiWith, japaneseWith};
+ghost use Rattle.characters.specs.Characters.{alnum, asciiSet, signs, japanese, bitSet, kanjiWith, japaneseWith};
 ghost use Rattle.characters.specs.Replace.{halfKana, classOf, replace};
 ghost use Rattle.characters.specs.Compose.{composed};
 
@@ -61,12 +61,23 @@ fn is_sign(c: u32) -> bool
     lists::holds(&SIGNS, c)
 }
 
-// A kanji, by a lent table? What stands outside their stretch needs no search.
+fn bit(word: u32, k: u32) -> bool
+    requires { ⌜ k < 32 ⌝ }
+    ensures { λ r. ⌜ r ≡ bitSet word k ⌝ }
+{
+    (word >> k) % 2 == 1
+}
+
+// A kanji, by a lent table of bits? Any table may be lent, so a short one too.
 fn is_kanji(kanji: &[u32], c: u32) -> bool
     ensures { λ r. ⌜ r ≡ kanjiWith (now (kanji .entry)) c ⌝ }
 {
     if between(0x4E00, 0x9FA0, c) {
-        return lists::finds(kanji, c);
+        let i = c - 0x4E00;
+        let word = (i / 32) as usize;
+        if word < kanji.len() {
+            return bit(kanji[word], i % 32);
+        }
     }
     false
 }

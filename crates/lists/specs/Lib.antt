@@ -1,4 +1,3 @@
 pub mod Tests
 pub mod Front
-pub mod Halving
 pub mod Rows

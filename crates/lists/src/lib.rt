@@ -1,11 +1,10 @@
 // Slices of numbers: compared, searched and copied. Each call takes any slices and says all of its result.
-// Its meaning is defined in specs/: Tests (same, elem), Halving, Front (written).
+// Its meaning is defined in specs/: Tests (same, elem), Front (written).
 ghost use mathlib.Core.Path.{_≡_};
 ghost use Prim.Native.Nat.{min};
 ghost use lib.ListN.{length, take};
 ghost use Rattle.lists.specs.Tests.{same, elem};
 ghost use Rattle.lists.specs.Front.{written};
-ghost use Rattle.lists.specs.Halving.{halving};
 
 // Are the two the same?
 pub fn same(a: &[u32], b: &[u32]) -> bool
@@ -34,27 +33,6 @@ pub fn holds(table: &[u32], c: u32) -> bool
             return true;
         }
         i += 1;
-    }
-    false
-}
-
-// Is c in a large table that rises? Of a table that does not, what halving finds.
-pub fn finds(table: &[u32], c: u32) -> bool
-    ensures { λ r. ⌜ r ≡ halving c (now (table .entry)) ⌝ }
-{
-    let mut lo: usize = 0;
-    let mut hi: usize = table.len();
-    while lo < hi {
-        let mid = lo + (hi - lo) / 2;
-        let x = table[mid];
-        if x == c {
-            return true;
-        }
-        if x < c {
-            lo = mid + 1;
-        } else {
-            hi = mid;
-        }
     }
     false
 }

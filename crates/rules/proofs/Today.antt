@@ -1,5 +1,5 @@
 -- The edition in force keeps the laws, since no Japanese character stands below 3005 and the 94 labels are short and made of what a
--- label may hold; and the kanji lent as a table give the same edition, since they rise.
+-- label may hold; and the bits of the kanji lent as a table give the same edition, since they say which code points are kanji.
 -- Assumes nothing.
 use mathlib.Core.Path.{_≡_, refl, sym, _∙_}
 use mathlib.Core.Bool.{Bool, true, false, not}
@@ -12,6 +12,7 @@ use borrow.Author.Tests.{leb-true, not-true}
 use Rattle.lists.specs.Tests.{within, allOf, anyOf, elem, same}
 use Rattle.lists.proofs.Laws.{both, all-append, same-is}
 use Rattle.characters.specs.Kanji.{kanji}
+use Rattle.characters.specs.KanjiBits.{kanjiBits}
 use Rattle.characters.proofs.Bounds.{with-below}
 use Rattle.characters.proofs.Lent as Lent
 use Rattle.characters.specs.Characters.{alnum, hyphen, asciiSet, hiragana, katakana, signs, japaneseBy, japanese}
@@ -48,7 +49,7 @@ all-short = refl
 -- ---- the laws
 
 below : (c : ℕ) → c < 0x3005 → japanese c ≡ false
-below c h = sym (Lent.lent c) ∙ with-below kanji c h
+below c h = sym (Lent.lent c) ∙ with-below kanjiBits c h
 
 all-held : allOf (allOf (labelChar today)) prefectures ≡ true
 unfolding allOf anyOf elem within labelChar asciiSet alnum hyphen hiragana katakana signs japaneseBy japanese kanji prefectures today
@@ -67,6 +68,6 @@ today-laws = record {
 
 -- ---- the kanji lent
 
-pub lent : todayWith kanji ≡ today
+pub lent : todayWith kanjiBits ≡ today
 unfolding today todayWith
 lent = λ i. record { japanese = λ c. Lent.lent c i; middle = isPrefecture; three = true }

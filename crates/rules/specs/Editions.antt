@@ -14,6 +14,6 @@ isPrefecture l = anyOf (same l) prefectures
 unfoldable pub today : Permits
 today = record { japanese = japanese; middle = isPrefecture; three = true }
 
--- the same, of a table of kanji that is lent; of the kanji themselves it is `today` (proofs/Today)
+-- the same, of a table of kanji that is lent; of the bits of the kanji it is `today` (proofs/Today)
 unfoldable pub todayWith : List ℕ → Permits
 todayWith table = record { japanese = japaneseWith table; middle = isPrefecture; three = true }

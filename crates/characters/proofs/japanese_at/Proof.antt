@@ -1,7 +1,7 @@
--- `japanese_at` meets its contract: `KANJI` is the list of the specification, and of that list halving is membership.
+-- `japanese_at` meets its contract: `KANJI` is the table of the specification, and lent that table the kanji are those of the list.
 -- Assumes nothing.
 use mathlib.Core.Path.{_∙_}
-use Rattle.characters.specs.Kanji.{kanji}
+use Rattle.characters.specs.KanjiBits.{kanjiBits}
 use Rattle.characters.proofs.Lent.{lent}
 use borrow.Author.Needs.{needs}
 use Rattle.characters.proofs.japanese_at.Statement.{statement}
@@ -14,7 +14,7 @@ is-japanese-requires : tie.Need-is-japanese-requires
 is-japanese-requires c κs = search needs
 
 returns : tie.Need-returns
-unfolding kanji
+unfolding kanjiBits
 returns c = c .is-japanese .ensures ∙ lent _
 
 pub japanese-at-spec : {M : Type 1} → statement M

@@ -1,8 +1,8 @@
--- `look` meets its contract: the table of kanji is lent, and lent its own kanji the edition is itself.
+-- `look` meets its contract: the table of kanji is lent, and lent the bits of its own kanji the edition is itself.
 -- Assumes nothing.
 use mathlib.Core.Path.{ap, _∙_}
 use borrow.Author.Needs.{needs}
-use Rattle.characters.specs.Kanji.{kanji}
+use Rattle.characters.specs.KanjiBits.{kanjiBits}
 use Rattle.rules.specs.Permits.{Permits}
 use Rattle.rules.proofs.Today.{lent}
 use Rattle.live.specs.Live.{looked}
@@ -16,7 +16,7 @@ look-with-requires : tie.Need-look-with-requires
 look-with-requires c κs = search needs
 
 returns : tie.Need-returns
-unfolding kanji
+unfolding kanjiBits
 returns c = c .look-with .ensures ∙ ap (λ (P : Permits). looked P (c .before .before .args .self)) lent
 
 pub look-spec : {M : Type 1} → statement M

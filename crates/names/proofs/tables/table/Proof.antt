@@ -1,12 +1,12 @@
 -- `table` meets its contract: the table in the code is the list of the definitions.
 -- Assumes nothing.
 use mathlib.Core.Path.{refl}
-use Rattle.characters.specs.Kanji.{kanji}
+use Rattle.characters.specs.KanjiBits.{kanjiBits}
 use Rattle.names.proofs.tables.table.Statement.{statement}
 use Rattle.names.proofs.tables.table.Tie as tie
 
 returns : tie.Need-returns
-unfolding kanji
+unfolding kanjiBits
 returns c = refl
 
 pub table-spec : {M : Type 1} → statement M
