@@ -2,27 +2,25 @@
 -- from there, loses nothing.
 -- Assumes nothing.
 use mathlib.Core.Path.{_≡_, refl, sym, ap, _∙_}
-use mathlib.Core.Bool.{Bool, true, false}
 use mathlib.Core.List.{List, [], _∷_, _++_, append-assoc, append-nil}
 use Prim.Native.Nat.{ℕ, zero, suc, _+_, _-_, _*_, _/_, _%_, _≤_, _<_}
 use native.Mathlib.Nat.{div-le-self, div-lt-iff-lt-mul, mul-le-mul, mul-le-mul-left}
 use native.Mathlib.Numerals.{add-one}
 use native.Mathlib.Omega.{arith}
-use lib.Dec.{ltb, eqb}
+use lib.Dec.{eqb}
 use lib.ListN.{length, getD, take, drop, set, length-append, length-take, drop-of-length-le}
 use lib.Seq.{drop-cons, take-suc-set, take-append-le, length-take-le, take-all, take-take, append-snoc}
 use borrow.Author.Tests.{lt-ltb, le-ltb, ne-eqb, eq-eqb}
-use Rattle.lists.specs.Tests.{pick}
 use Rattle.punycode.specs.Inner.{kept, held}
 use Rattle.punycode.specs.Order.{due, run, first, Climbs, step}
 use Rattle.punycode.specs.Punycode.{adaptLoop, adapt, threshold, digit, varint, Enc, emit, below, delimiter, extended, encode, ace}
 use Rattle.punycode.specs.declared.coder.State.{State}
-use Rattle.punycode.proofs.Keys.{none}
+use Rattle.punycode.proofs.Keys.{none, below-append}
 use Rattle.punycode.proofs.Reading.{split}
 
 -- ---- the first 64 octets
 
-pub clip-append : (xs ys : List ℕ) → take 64 (take 64 xs ++ ys) ≡ take 64 (xs ++ ys)
+clip-append : (xs ys : List ℕ) → take 64 (take 64 xs ++ ys) ≡ take 64 (xs ++ ys)
 clip-append xs ys = split (length xs) 64
     (λ l. rw (take-all 64 xs (omega arith)))
     (λ g. rw (take-append-le 64 (take 64 xs) ys (omega (arith, length-take-le 64 xs g)), take-append-le 64 xs ys g, take-take 64 64 xs (omega arith)))
@@ -134,7 +132,7 @@ due-kept : (p : List ℕ) (b d : ℕ) (s : Enc) → kept [] (emit b (due d (kept
 unfolding emit kept due
 due-kept p b d s = rw (clip-append, append-assoc)
 
-pub run-kept : (p : List ℕ) (b : ℕ) (xs : List ℕ) (n i : ℕ) (s : Enc) → take 64 (run b xs n i (kept p s)) ≡ take 64 (p ++ run b xs n i s)
+run-kept : (p : List ℕ) (b : ℕ) (xs : List ℕ) (n i : ℕ) (s : Enc) → take 64 (run b xs n i (kept p s)) ≡ take 64 (p ++ run b xs n i s)
 unfolding run kept
 run-kept p b [] n i s = take-take 64 64 (p ++ s .out) (omega arith)
 run-kept p b (x ∷ xs) n i s =
@@ -173,25 +171,13 @@ module _ (b : ℕ) (keys : List ℕ) (j n i : ℕ) (s : Enc) where
 
 -- ---- the basic code points
 
-below-one : (c : ℕ) (l : List ℕ) → below 128 (c ∷ l) ≡ below 128 (c ∷ []) ++ below 128 l
-unfolding below
-below-one c l = split c 128 (λ h. rw (lt-ltb c 128 h)) (λ h. rw (le-ltb c 128 h))
-
-pub one-basic : (c : ℕ) → c < 128 → below 128 (c ∷ []) ≡ c ∷ []
-unfolding below
-one-basic c h = rw (lt-ltb c 128 h)
-
-pub no-basic : (c : ℕ) → 128 ≤ c → below 128 (c ∷ []) ≡ []
-unfolding below
-no-basic c h = rw (le-ltb c 128 h)
-
 -- the loop is at j: `text` is written, of what the whole loop writes after p
 module _ (p l : List ℕ) (j : ℕ) (text : List ℕ) (v : take 64 (text ++ below 128 (drop j l)) ≡ take 64 (p ++ below 128 l)) where
   pub basics-next : (text′ : List ℕ) → j < length l → text′ ≡ take 64 (text ++ below 128 (getD l j 0 ∷ []))
       → take 64 (text′ ++ below 128 (drop (j + 1) l)) ≡ take 64 (p ++ below 128 l)
   basics-next text′ h r =
       let e : below 128 (drop j l) ≡ below 128 (getD l j 0 ∷ []) ++ below 128 (drop (j + 1) l) =
-      rw (drop-cons l j 0 h, add-one j) (below-one (getD l j 0) (drop (suc j) l)) in
+      rw (drop-cons l j 0 h, add-one j) (below-append 128 (getD l j 0 ∷ []) (drop (suc j) l)) in
       rw (r, clip-append, append-assoc, ← e) v
 
   pub basics-end : (b : ℕ) (text′ : List ℕ) → length l ≤ j → (b ≡ 0 → ⊥) → text′ ≡ take 64 (text ++ (45 ∷ [])) → text′ ≡ take 64 (p ++ below 128 l ++ delimiter b)
@@ -203,7 +189,7 @@ module _ (p l : List ℕ) (j : ℕ) (text : List ℕ) (v : take 64 (text ++ belo
 
 pub basics-none : (p l out : List ℕ) (b : ℕ) → b ≡ length (below 128 l) → b ≡ 0 → out ≡ take 64 p → out ≡ take 64 (p ++ below 128 l ++ delimiter b)
 unfolding delimiter
-basics-none p l out b h z q = let e = none (below 128 l) (omega arith) in rw (q, e, eq-eqb b 0 z, append-nil, append-nil)
+basics-none p l out b h z q = let e = none (below 128 l) (omega arith) in rw (q, e, eq-eqb b 0 z) (simp append-nil)
 
 -- ---- the whole
 

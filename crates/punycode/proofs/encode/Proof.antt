@@ -1,6 +1,7 @@
 -- `encode` meets its contract: each return is one of the answers, by the room, whether the label is encodable, and the length of its encoding.
 -- Assumes nothing.
 use mathlib.Core.Path.{_≡_, refl, sym, _∙_}
+use mathlib.Core.Bool.{true}
 use native.Mathlib.Omega.{arith}
 use lib.ListN.{length, take}
 use lib.Seq.{length-take-le}
@@ -39,9 +40,9 @@ refused-requires-4 : tie.Need-refused-requires-4
 refused-requires-4 c κs = search needs
 
 returns-4 : tie.Need-returns-4
-returns-4 c = 
+returns-4 c =
     let t = c .before .before .before .before .ace in
-    let ok = not-false _ (c .before .before .if3 .left) in
+    let ok : t .result .ok ≡ true = not-false _ (c .before .before .if3 .left) in
     let size = length-take-le (t .result .at) (t .last .1 .0) (omega (arith, t .kept .1 .0)) in
     encodes-long (c .before .before .before .before .before .before .before .before .before .before .args .label .now) _ _ (c .before .before .before .before .before .before .before .if1 .left) (sym (t .ensures .0) ∙ ok) (take (t .result .at) (t .last .1 .0)) (t .ensures .2 ok) (omega arith) (c .refused4 .ensures)
 
@@ -61,9 +62,9 @@ same-length : tie.Need-same-length
 same-length c = search needs
 
 returns-5 : tie.Need-returns-5
-returns-5 c = 
+returns-5 c =
     let t = c .before .before .before .before .before .before .before .before .before .ace in
-    let ok = not-false _ (c .before .before .before .before .before .before .before .if3 .left) in
+    let ok : t .result .ok ≡ true = not-false _ (c .before .before .before .before .before .before .before .if3 .left) in
     let text = take (t .result .at) (t .last .1 .0) in
     let size : length text ≡ t .result .at = length-take-le (t .result .at) (t .last .1 .0) (omega (arith, t .kept .1 .0)) in
     encodes-done (c .before .before .before .before .before .before .before .before .before .before .before .before .before .before .before .args .label .now) _ _ (c .before .before .before .before .before .before .before .before .before .before .before .before .if1 .left) (sym (t .ensures .0) ∙ ok)

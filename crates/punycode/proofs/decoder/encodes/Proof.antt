@@ -34,7 +34,7 @@ same-requires : tie.Need-same-requires
 same-requires c κs = search needs
 
 returns-3 : tie.Need-returns-3
-returns-3 c = 
+returns-3 c =
     let t = c .before .before .before .before .before .ace in
     let ok = not-false _ (c .before .before .before .if2 .left) in
     encodes-if (c .before .before .before .before .before .before .before .before .before .before .args .l .now) (c .before .before .before .before .before .before .before .before .before .before .args .low .now) (c .same .result) _ (sym (t .ensures .0) ∙ ok) (omega arith)
