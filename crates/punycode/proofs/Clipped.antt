@@ -2,25 +2,25 @@
 -- from there, loses nothing.
 -- Assumes nothing.
 use mathlib.Core.Path.{_≡_, refl, sym, ap, _∙_}
-use mathlib.Core.Bool.{Bool, true, false}
 use mathlib.Core.List.{List, [], _∷_, _++_, append-assoc, append-nil}
 use Prim.Native.Nat.{ℕ, zero, suc, _+_, _-_, _*_, _/_, _%_, _≤_, _<_}
-use native.Mathlib.Nat.{div-le-self, div-lt-iff-lt-mul, mul-le-mul-left}
+use native.Mathlib.Nat.{div-le-self, div-lt-iff-lt-mul, mul-le-mul, mul-le-mul-left}
 use native.Mathlib.Numerals.{add-one}
 use native.Mathlib.Omega.{arith}
-use lib.Dec.{ltb, eqb}
+use lib.Dec.{eqb}
 use lib.ListN.{length, getD, take, drop, set, length-append, length-take, drop-of-length-le}
 use lib.Seq.{drop-cons, take-suc-set, take-append-le, length-take-le, take-all, take-take, append-snoc}
 use borrow.Author.Tests.{lt-ltb, le-ltb, ne-eqb, eq-eqb}
-use Rattle.lists.specs.Tests.{pick}
 use Rattle.punycode.specs.Inner.{kept, held}
-use Rattle.punycode.specs.Punycode.{adaptLoop, adapt, threshold, digit, varint, nearer, least, Enc, emit, add, point, points, below, delimiter, extended, encode, ace}
+use Rattle.punycode.specs.Order.{due, run, first, Climbs, step}
+use Rattle.punycode.specs.Punycode.{adaptLoop, adapt, threshold, digit, varint, Enc, emit, below, delimiter, extended, encode, ace}
 use Rattle.punycode.specs.declared.coder.State.{State}
+use Rattle.punycode.proofs.Keys.{none, below-append}
 use Rattle.punycode.proofs.Reading.{split}
 
 -- ---- the first 64 octets
 
-pub clip-append : (xs ys : List ℕ) → take 64 (take 64 xs ++ ys) ≡ take 64 (xs ++ ys)
+clip-append : (xs ys : List ℕ) → take 64 (take 64 xs ++ ys) ≡ take 64 (xs ++ ys)
 clip-append xs ys = split (length xs) 64
     (λ l. rw (take-all 64 xs (omega arith)))
     (λ g. rw (take-append-le 64 (take 64 xs) ys (omega (arith, length-take-le 64 xs g)), take-append-le 64 xs ys g, take-take 64 64 xs (omega arith)))
@@ -119,117 +119,77 @@ clip-last out end total h e = sym (take-take 64 end out h) ∙ e
 
 -- ---- the coder's state
 
-module _ (s : State) (text : List ℕ) where
-  pub held-whole : s .at ≤ 64 → held s text ≡ kept [] (held s text)
-  unfolding held kept
-  held-whole h = rw (clip-again (s .at) text h)
+pub emit-held : (s : State) (text : List ℕ) (b : ℕ) (s′ : State) (text′ : List ℕ) → s′ .delta ≡ 0 → s′ .h ≡ s .h + 1
+    → s′ .bias ≡ adapt (s .delta) (s .h + 1) (eqb (s .h) b)
+    → take (s′ .at) text′ ≡ take 64 (take (s .at) text ++ varint (suc (s .delta)) (s .bias) 36 (s .delta))
+    → held s′ text′ ≡ kept [] (emit b (held s text))
+unfolding held kept emit
+emit-held s text b s′ text′ d h p q = rw (d, h, p, q)
 
-  pub emit-held : (b : ℕ) (s′ : State) (text′ : List ℕ) → s′ .delta ≡ 0 → s′ .h ≡ s .h + 1 → s′ .bias ≡ adapt (s .delta) (s .h + 1) (eqb (s .h) b)
-      → take (s′ .at) text′ ≡ take 64 (take (s .at) text ++ varint (suc (s .delta)) (s .bias) 36 (s .delta))
-      → held s′ text′ ≡ kept [] (emit b (held s text))
-  unfolding held kept emit
-  emit-held b s′ text′ d h p q = rw (d, h, p, q)
+-- ---- the keys go on from what is kept as from the whole
 
-  module _ (n b c : ℕ) where
-    pub point-low : c < n → s .at ≤ 64 → add 1 (held s text) ≡ kept [] (point n b c (held s text))
-    unfolding point held kept add
-    point-low l h = rw (lt-ltb c n l, clip-again (s .at) text h)
+due-kept : (p : List ℕ) (b d : ℕ) (s : Enc) → kept [] (emit b (due d (kept p s))) ≡ kept p (emit b (due d s))
+unfolding emit kept due
+due-kept p b d s = rw (clip-append, append-assoc)
 
-    pub point-high : n < c → s .at ≤ 64 → held s text ≡ kept [] (point n b c (held s text))
-    unfolding point held kept
-    point-high l h = rw (le-ltb c n (omega arith), ne-eqb c n (omega arith), clip-again (s .at) text h)
+run-kept : (p : List ℕ) (b : ℕ) (xs : List ℕ) (n i : ℕ) (s : Enc) → take 64 (run b xs n i (kept p s)) ≡ take 64 (p ++ run b xs n i s)
+unfolding run kept
+run-kept p b [] n i s = take-take 64 64 (p ++ s .out) (omega arith)
+run-kept p b (x ∷ xs) n i s =
+    let d = (x / 64 - n) * (s .h + 1) + x % 64 - i in
+    sym (run-kept [] b xs (x / 64) (x % 64 + 1) (emit b (due d (kept p s))))
+    ∙ ap (λ e. take 64 (run b xs (x / 64) (x % 64 + 1) e)) (due-kept p b d s)
+    ∙ run-kept p b xs (x / 64) (x % 64 + 1) (emit b (due d s))
 
-    pub point-at : (x : Enc) → c ≡ n → x ≡ kept [] (emit b (held s text)) → x ≡ kept [] (point n b c (held s text))
-    unfolding point
-    point-at x q e = rw (le-ltb c n (omega arith), eq-eqb c n q) e
+-- ---- the loop over the keys
 
--- ---- the procedure's steps go on from what is kept as from the whole
+pub run-first : (p : List ℕ) (b : ℕ) (keys : List ℕ) → take 64 p ≡ p
+    → take 64 (run b keys 128 0 (record { delta = 0; bias = 72; h = b; out = p })) ≡ take 64 (p ++ run b keys 128 0 (first b))
+unfolding kept first
+run-first p b keys e = ap (λ (x : List ℕ). take 64 (run b keys 128 0 (record { delta = 0; bias = 72; h = b; out = x }))) (sym (rw append-nil e)) ∙ run-kept p b keys 128 0 (first b)
 
-module _ (p : List ℕ) (n b : ℕ) where
-  emit-kept : (s : Enc) → kept [] (emit b (kept p s)) ≡ kept p (emit b s)
-  unfolding emit kept
-  emit-kept s = rw (clip-append, append-assoc)
+module _ (b : ℕ) (keys : List ℕ) (j n i : ℕ) (s : Enc) where
+  pub climbs-next : j < length keys → Climbs n i (s .h) (drop j keys) → let x = getD keys j 0 in
+      (n ≤ x / 64) × (i ≤ (x / 64 - n) * (s .h + 1) + x % 64) × (x < 0x4400000) × Climbs (x / 64) (x % 64 + 1) (s .h + 1) (drop (j + 1) keys)
+  climbs-next h v = rw (add-one j) (go (rw (drop-cons keys j 0 h) at v))
+    where
+      go : {x : ℕ} {xs : List ℕ} → Climbs n i (s .h) (x ∷ xs) → (n ≤ x / 64) × (i ≤ (x / 64 - n) * (s .h + 1) + x % 64) × (x < 0x4400000) × Climbs (x / 64) (x % 64 + 1) (s .h + 1) xs
+      go (step p q r w) = (p, q, r, w)
 
-  stay-kept : (s : Enc) → kept [] (kept p s) ≡ kept p s
-  unfolding kept
-  stay-kept s = rw (take-take 64 64 (p ++ s .out) (omega arith))
+  pub delta-fits : (x : ℕ) → x < 0x4400000 → s .h < 63 → (x / 64 - n) * (s .h + 1) + x % 64 < 0x4400000
+  delta-fits x h g = omega (arith, mul-le-mul {n₁ = x / 64 - n} {m₁ = s .h + 1} {n₂ = 0x10FFFF} {m₂ = 63} (omega arith) (omega arith))
 
-  pick-kept : (t u : Bool) (s : Enc)
-      → kept [] (pick t (add 1 (kept p s)) (pick u (emit b (kept p s)) (kept p s))) ≡ kept p (pick t (add 1 s) (pick u (emit b s) s))
-  pick-kept true u s = unfold add kept in rw (take-take 64 64 (p ++ s .out) (omega arith))
-  pick-kept false true s = emit-kept s
-  pick-kept false false s = stay-kept s
+  pub run-next : (e : Enc) (total : List ℕ) → j < length keys
+      → e ≡ kept [] (emit b (due ((getD keys j 0 / 64 - n) * (s .h + 1) + getD keys j 0 % 64 - i) s)) → take 64 (run b (drop j keys) n i s) ≡ total
+      → take 64 (run b (drop (j + 1) keys) (getD keys j 0 / 64) (getD keys j 0 % 64 + 1) e) ≡ total
+  unfolding run
+  run-next e total h p q = rw (p, run-kept, add-one j) (rw (drop-cons keys j 0 h) at q)
 
-  point-kept : (c : ℕ) (s : Enc) → kept [] (point n b c (kept p s)) ≡ kept p (point n b c s)
-  unfolding point
-  point-kept c s = pick-kept (ltb c n) (eqb c n) s
-
-pub points-kept : (p : List ℕ) (n b : ℕ) (l : List ℕ) (s : Enc) → kept [] (points n b l (kept p s)) ≡ kept p (points n b l s)
-unfolding points
-points-kept p n b [] s = stay-kept p n b s
-points-kept p n b (c ∷ l) s =
-    sym (points-kept [] n b l (point n b c (kept p s)))
-    ∙ ap (λ x. kept [] (points n b l x)) (point-kept p n b c s)
-    ∙ points-kept p n b l (point n b c s)
-
--- ---- the loop of one pass
-
-module _ (n b : ℕ) (l : List ℕ) (j : ℕ) where
-  pub points-next : (e x total : Enc) → j < length l → x ≡ kept [] (point n b (getD l j 0) e) → kept [] (points n b (drop j l) e) ≡ total
-      → kept [] (points n b (drop (j + 1) l) x) ≡ total
-  unfolding points
-  points-next e x total h p q = rw (p, points-kept, add-one j) (rw (drop-cons l j 0 h) at q)
-
-  pub points-end : (s : State) (text : List ℕ) (total : Enc) → length l ≤ j → s .at ≤ 64 → kept [] (points n b (drop j l) (held s text)) ≡ total → held s text ≡ total
-  unfolding points
-  points-end s text total h k q = held-whole s text k ∙ rw (drop-of-length-le l h) at q
-
-pub least-next : (n : ℕ) (l : List ℕ) (m j : ℕ) → j < length l → least n (drop j l) m ≡ least n (drop (j + 1) l) (nearer n (getD l j 0) m)
-unfolding least
-least-next n l m j h = rw (drop-cons l j 0 h, add-one j)
-
-pub least-end : (n : ℕ) (l : List ℕ) (m j : ℕ) → length l ≤ j → least n (drop j l) m ≡ m
-unfolding least
-least-end n l m j h = rw (drop-of-length-le l h)
+  pub run-end : (total : List ℕ) → length keys ≤ j → take 64 (run b (drop j keys) n i s) ≡ total → take 64 (s .out) ≡ total
+  unfolding run
+  run-end total h q = rw (drop-of-length-le keys h) at q
 
 -- ---- the basic code points
 
-below-one : (c : ℕ) (l : List ℕ) → below 128 (c ∷ l) ≡ below 128 (c ∷ []) ++ below 128 l
-unfolding below
-below-one c l = split c 128 (λ h. rw (lt-ltb c 128 h)) (λ h. rw (le-ltb c 128 h))
+-- the loop is at j: `text` is written, of what the whole loop writes after p
+module _ (p l : List ℕ) (j : ℕ) (text : List ℕ) (v : take 64 (text ++ below 128 (drop j l)) ≡ take 64 (p ++ below 128 l)) where
+  pub basics-next : (text′ : List ℕ) → j < length l → text′ ≡ take 64 (text ++ below 128 (getD l j 0 ∷ []))
+      → take 64 (text′ ++ below 128 (drop (j + 1) l)) ≡ take 64 (p ++ below 128 l)
+  basics-next text′ h r =
+      let e : below 128 (drop j l) ≡ below 128 (getD l j 0 ∷ []) ++ below 128 (drop (j + 1) l) =
+      rw (drop-cons l j 0 h, add-one j) (below-append 128 (getD l j 0 ∷ []) (drop (suc j) l)) in
+      rw (r, clip-append, append-assoc, ← e) v
 
-pub one-basic : (c : ℕ) → c < 128 → below 128 (c ∷ []) ≡ c ∷ []
-unfolding below
-one-basic c h = rw (lt-ltb c 128 h)
-
-pub no-basic : (c : ℕ) → 128 ≤ c → below 128 (c ∷ []) ≡ []
-unfolding below
-no-basic c h = rw (le-ltb c 128 h)
-
--- the loop is at j, b code points are counted and `text` is written, of what the whole loop writes after p
-pub record Basics (p l : List ℕ) (j b : ℕ) (text : List ℕ) : Type 0 where
-  pub counts : b + length (below 128 (drop j l)) ≡ length (below 128 l)
-  pub writes : take 64 (text ++ below 128 (drop j l)) ≡ take 64 (p ++ below 128 l)
-
-pub basics-first : (p l : List ℕ) → Basics p l 0 0 p
-basics-first p l = record { counts = omega arith; writes = refl }
-
-module _ (p l : List ℕ) (j b : ℕ) (text : List ℕ) (v : Basics p l j b text) where
-  pub basics-next : (b′ : ℕ) (text′ : List ℕ) → j < length l → b′ ≡ b + length (below 128 (getD l j 0 ∷ []))
-      → text′ ≡ take 64 (text ++ below 128 (getD l j 0 ∷ [])) → Basics p l (j + 1) b′ text′
-  basics-next b′ text′ h q r =
-      let x = below 128 (getD l j 0 ∷ []) in
-      let e : below 128 (drop j l) ≡ x ++ below 128 (drop (j + 1) l) = rw (drop-cons l j 0 h, add-one j) (below-one (getD l j 0) (drop (suc j) l)) in
-      record {
-        counts = omega (arith, v .counts, ap length e, length-append x (below 128 (drop (j + 1) l)));
-        writes = rw (r, clip-append, append-assoc, ← e) (v .writes);
-      }
-
-  pub basics-end : length l ≤ j → (b ≡ length (below 128 l)) × (take 64 text ≡ take 64 (p ++ below 128 l))
-  unfolding below
-  basics-end h =
+  pub basics-end : (b : ℕ) (text′ : List ℕ) → length l ≤ j → (b ≡ 0 → ⊥) → text′ ≡ take 64 (text ++ (45 ∷ [])) → text′ ≡ take 64 (p ++ below 128 l ++ delimiter b)
+  unfolding below delimiter
+  basics-end b text′ h z r =
       let e : below 128 (drop j l) ≡ [] = rw (drop-of-length-le l h) in
-      (omega (arith, v .counts, ap length e), rw (e, append-nil) at (v .writes))
+      let q : take 64 text ≡ take 64 (p ++ below 128 l) = rw (e, append-nil) at v in
+      r ∙ sym (clip-append text _) ∙ rw (q, clip-append, ne-eqb b 0 z)
+
+pub basics-none : (p l out : List ℕ) (b : ℕ) → b ≡ length (below 128 l) → b ≡ 0 → out ≡ take 64 p → out ≡ take 64 (p ++ below 128 l ++ delimiter b)
+unfolding delimiter
+basics-none p l out b h z q = let e = none (below 128 l) (omega arith) in rw (q, e, eq-eqb b 0 z) (simp append-nil)
 
 -- ---- the whole
 
@@ -237,7 +197,7 @@ pub prefix-is : (a b c d : List ℕ) → a ≡ take 64 ([] ++ (120 ∷ [])) → 
     → d ≡ 120 ∷ 110 ∷ 45 ∷ 45 ∷ []
 prefix-is a b c d p q r s = rw (s, r, q, p)
 
-pub ace-is : (l p bs ds out : List ℕ) → p ≡ 120 ∷ 110 ∷ 45 ∷ 45 ∷ [] → bs ≡ take 64 (p ++ below 128 l) → ds ≡ take 64 (bs ++ delimiter (length (below 128 l)))
-    → out ≡ take 64 (ds ++ extended l) → out ≡ take 64 (ace l)
+pub ace-is : (l p bs out : List ℕ) → p ≡ 120 ∷ 110 ∷ 45 ∷ 45 ∷ [] → bs ≡ take 64 (p ++ below 128 l ++ delimiter (length (below 128 l)))
+    → out ≡ take 64 (bs ++ extended l) → out ≡ take 64 (ace l)
 unfolding ace encode
-ace-is l p bs ds out e f g h = rw (h, g, clip-append, f, append-assoc, clip-append, e) (ap (λ x. take 64 (120 ∷ 110 ∷ 45 ∷ 45 ∷ x)) (sym (append-assoc (below 128 l) _ _)))
+ace-is l p bs out e f h = rw (h, f, clip-append, e)

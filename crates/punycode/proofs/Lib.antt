@@ -4,7 +4,9 @@ pub mod RoundTrip
 pub mod Theorems
 pub mod Unique
 pub mod Rungs
+pub mod Keys
+pub mod Room
+pub mod Runs
 pub mod Clipped
-pub mod Passes
 pub mod Machine
 pub mod Answers

@@ -19,7 +19,7 @@ use Rattle.punycode.proofs.Reading.{split}
 
 -- ---- the minimum
 
-pub nearer-is : (n c m : ℕ) → n ≤ m → (n ≤ nearer n c m) × (nearer n c m ≤ m) × (n ≤ c → nearer n c m ≤ c)
+nearer-is : (n c m : ℕ) → n ≤ m → (n ≤ nearer n c m) × (nearer n c m ≤ m) × (n ≤ c → nearer n c m ≤ c)
 unfolding nearer
 nearer-is n c m h = split c n
     (λ l. rw (lt-leb n c l) (h, omega arith, λ g. omega arith))
@@ -49,6 +49,15 @@ unfolding least
 least-is n [] m h = record { low = h; high = omega arith; same = unfold below in refl }
 least-is n (c ∷ l) m h = least-step n c l m _ h (least-is n l (nearer n c m) (nearer-is n c m h .0))
 
+-- while fewer than all are below n, there is one from n on
+pub least-under : (l : List ℕ) → below 0x110000 l ≡ l → (n h : ℕ) → n ≤ 0x110000 → h ≡ length (below n l) → h < length l → least n l 0x110000 < 0x110000
+least-under l bounded n h g count x =
+    let m = least n l 0x110000 in
+    let w = least-is n l 0x110000 g in
+    split m 0x110000 (λ y. y)
+    (λ y. let e : m ≡ 0x110000 = omega arith in
+    absurd (omega (arith, ap length (w .same), ap (λ (z : ℕ). length (below z l)) e, ap length bounded)))
+
 -- ---- all of the label is below n where as many are
 
 below-all : (n : ℕ) (l : List ℕ) → length l ≤ length (below n l) → below n l ≡ l
@@ -62,7 +71,7 @@ below-all n (c ∷ l) h = split c n
 
 module _ (start : Dec) (b : ℕ) (l : List ℕ) (few : length l ≤ 63) (bounded : below 0x110000 l ≡ l) where
   -- to the least code point from n on
-  pub rise : (n m : ℕ) (s : Enc) → n ≤ m → below m l ≡ below n l → Inv start b n [] l s → Inv start b m [] l (add ((m - n) * (s .h + 1)) s)
+  rise : (n m : ℕ) (s : Enc) → n ≤ m → below m l ≡ below n l → Inv start b n [] l s → Inv start b m [] l (add ((m - n) * (s .h + 1)) s)
   unfolding add
   rise n m s h e v = record {
     n = v .n;
@@ -78,7 +87,7 @@ module _ (start : Dec) (b : ℕ) (l : List ℕ) (few : length l ≤ 63) (bounded
   }
 
   -- past the last code point that is m
-  pub wrap : (m : ℕ) (s : Enc) → Inv start b m (below (m + 1) l) [] s → Inv start b (m + 1) [] l (add 1 s)
+  wrap : (m : ℕ) (s : Enc) → Inv start b m (below (m + 1) l) [] s → Inv start b (m + 1) [] l (add 1 s)
   unfolding add below
   wrap m s v =
       let count′ : s .h ≡ length (below (m + 1) l) = rw append-nil at (v .count) in
@@ -106,15 +115,6 @@ module _ (start : Dec) (b : ℕ) (l : List ℕ) (few : length l ≤ 63) (bounded
   has : (n : ℕ) (s : Enc) → below n l ≡ l → Inv start b n [] l s → Has (s .out)
   has n s e v = record { n = v .n; i = v .i; bias = s .bias; reads = rw e at (v .reads); clean = v .clean }
 
-  -- while the decoder lacks a code point, there is one from n on
-  pub least-under : (n : ℕ) (s : Enc) → n ≤ 0x110000 → Inv start b n [] l s → s .h < length l → least n l 0x110000 < 0x110000
-  least-under n s g v x =
-      let m = least n l 0x110000 in
-      let w = least-is n l 0x110000 g in
-      split m 0x110000 (λ y. y)
-      (λ y. let e : m ≡ 0x110000 = omega arith in
-      absurd (omega (arith, ap length (w .same), ap (λ (z : ℕ). length (below z l)) e, ap length bounded, v .count)))
-
   pass : (f n : ℕ) (s : Enc) → 0x110000 ≤ n + suc f → n ≤ 0x110000 → Inv start b n [] l s
       → ((n′ : ℕ) (s′ : Enc) → 0x110000 ≤ n′ + f → n′ ≤ 0x110000 → Inv start b n′ [] l s′ → Has (passes f l b n′ s′ .out))
       → Has (passes (suc f) l b n s .out)
@@ -123,12 +123,12 @@ module _ (start : Dec) (b : ℕ) (l : List ℕ) (few : length l ≤ 63) (bounded
       (λ x.
       let m = least n l 0x110000 in
       let w = least-is n l 0x110000 g in
-      let under = least-under n s g v x in
+      let under = least-under l bounded n (s .h) g (v .count) x in
       rw (lt-ltb (s .h) (length l) x)
       (next (m + 1) _ (omega arith) (omega arith) (wrap m _ (points-inv start b m under l [] _ (omega arith) (rise n m s (w .low) (w .same) v)))))
       (λ x. rw (le-ltb (s .h) (length l) x) (has n s (below-all n l (omega (arith, v .count))) v))
 
-  pub passes-has : (f n : ℕ) (s : Enc) → 0x110000 ≤ n + f → n ≤ 0x110000 → Inv start b n [] l s → Has (passes f l b n s .out)
+  passes-has : (f n : ℕ) (s : Enc) → 0x110000 ≤ n + f → n ≤ 0x110000 → Inv start b n [] l s → Has (passes f l b n s .out)
   unfolding passes
   passes-has zero n s h g v = let e : n ≡ 0x110000 = omega arith in has n s (rw e bounded) v
   passes-has (suc f) n s h g v = pass f n s h g v (passes-has f)
@@ -173,7 +173,7 @@ module _ (l : List ℕ) where
   decode-parts (c ∷ bs) ext n i bias a r = ap decode (one-delimiter c bs ext) ∙ decode-basic (c ∷ bs) ext n i bias a r
 
 module _ (l : List ℕ) (few : length l ≤ 63) (bounded : below 0x110000 l ≡ l) where
-  pub first-inv : Inv (first-dec l) (length (below 128 l)) 128 [] l (initial l)
+  first-inv : Inv (first-dec l) (length (below 128 l)) 128 [] l (initial l)
   unfolding octets allOf first-dec initial
   first-inv = record {
     n = 128;

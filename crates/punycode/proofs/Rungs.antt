@@ -1,20 +1,19 @@
 -- The tests on one number, rung by rung as the code's ladders of comparisons have them: between two bounds a test has one answer.
 -- Assumes nothing.
 use mathlib.Core.Path.{_≡_, refl, sym, _∙_}
-use mathlib.Core.Bool.{Bool, true, false, _&&_, and-false, or-true, or-false}
+use mathlib.Core.Bool.{Bool, true, false, and-false, or-true, or-false}
 use mathlib.Core.List.{List, [], _∷_}
-use Prim.Native.Nat.{ℕ, _+_, _-_, _%_, _≤_, _<_}
-use native.Mathlib.Numerals.{add-one}
+use Prim.Native.Nat.{ℕ, _+_, _-_, _≤_, _<_}
 use native.Mathlib.Omega.{arith}
 use lib.Dec.{ltb, leb}
-use lib.ListN.{length, getD, drop, drop-of-length-le}
-use lib.Seq.{drop-cons}
+use lib.ListN.{length}
 use borrow.Author.Tests.{lt-ltb, le-ltb, le-leb, lt-leb, ne-eqb, eq-eqb}
-use Rattle.lists.proofs.Laws.{both, inside, outside, in-range, all-weaker}
-use Rattle.lists.specs.Tests.{allOf, anyOf, within}
+use Rattle.lists.proofs.Laws.{inside, outside}
+use Rattle.lists.specs.Tests.{allOf, anyOf}
 use Rattle.punycode.specs.Calls.{lower}
 use Rattle.punycode.specs.Decoding.{value, mark}
-use Rattle.punycode.specs.Punycode.{nearer, delimiter, alnum, ldh, wide, allowed, encodable}
+use Rattle.punycode.specs.Punycode.{below, alnum, ldh, wide, allowed, encodable}
+use Rattle.punycode.proofs.Insertion.{length-below}
 use Rattle.punycode.proofs.Reading.{split}
 
 module _ (c : ℕ) where
@@ -104,84 +103,36 @@ module _ (c : ℕ) where
   unfolding mark
   mark-no j r e = rw (ne-eqb c 45 e)
 
--- ---- the highest so far
-
--- d is how far c is above 80, modulo 2 ^ 32
-module _ (c top d : ℕ) (wraps : (d + 0x80) % 0x100000000 ≡ c) (fits : d < 0x100000000) where
-  higher-in : d < 0xD780 → within 0x80 0xD7FF c ≡ true
-  higher-in h = inside 0x80 0xD7FF c (omega arith) (omega arith)
-
-  pub higher-yes : top < d → ltb d 0xD780 ≡ (ltb top 0xD780 && within 0x80 0xD7FF c)
-  higher-yes h = split d 0xD780
-      (λ l. rw (lt-ltb d 0xD780 l, lt-ltb top 0xD780 (omega arith), higher-in l))
-      (λ g. rw (le-ltb d 0xD780 g, outside 0x80 0xD7FF c (λ p q. omega arith), and-false))
-
-  pub higher-no : d ≤ top → ltb top 0xD780 ≡ (ltb top 0xD780 && within 0x80 0xD7FF c)
-  higher-no h = split top 0xD780
-      (λ l. rw (lt-ltb top 0xD780 l, higher-in (omega arith)))
-      (λ g. rw (le-ltb top 0xD780 g))
-
--- the loop is at j, and x says whether all that was passed is plain
-module _ (l : List ℕ) (j : ℕ) where
-  pub plain-next : (x y r : Bool) → j < length l → y ≡ (x && within 0x80 0xD7FF (getD l j 0)) → (x && allOf (within 0x80 0xD7FF) (drop j l)) ≡ r
-      → (y && allOf (within 0x80 0xD7FF) (drop (j + 1) l)) ≡ r
-  unfolding allOf
-  plain-next true y r h e q = rw (e, add-one j) (rw (drop-cons l j 0 h) at q)
-  plain-next false y r h e q = rw e q
-
-  pub plain-end : (x r : Bool) → length l ≤ j → (x && allOf (within 0x80 0xD7FF) (drop j l)) ≡ r → x ≡ r
-  unfolding allOf
-  plain-end true r h q = rw (drop-of-length-le l h) at q
-  plain-end false r h q = q
-
-plain-allowed : (c : ℕ) → within 0x80 0xD7FF c ≡ true → allowed c ≡ true
-plain-allowed c h =
-    let e = in-range 0x80 0xD7FF c h in
-    sym (allowed-wide c true (wide-low c (e .0) (omega arith)) refl)
-
--- ---- the least so far
-
--- d is how far c is above n, modulo 2 ^ 32
-module _ (n c k d : ℕ) (wraps : (d + n) % 0x100000000 ≡ c) (low : n + k ≤ 0x110000) where
-  pub nearer-yes : d < k → n + d ≡ nearer n c (n + k)
-  unfolding nearer
-  nearer-yes h =
-      let e : c ≡ n + d = omega arith in
-      rw (le-leb n c (omega arith), lt-ltb c (n + k) (omega arith)) (omega arith)
-
-  pub nearer-no : d < 0x100000000 → k ≤ d → n + k ≡ nearer n c (n + k)
-  unfolding nearer
-  nearer-no f h = split c n (λ l. rw (lt-leb n c l)) (λ g. rw (le-leb n c g, le-ltb c (n + k) (omega arith)))
-
-pub delimiter-no : (b : ℕ) → b ≡ 0 → delimiter b ≡ []
-unfolding delimiter
-delimiter-no b e = rw (eq-eqb b 0 e)
-
-pub delimiter-yes : (b : ℕ) → (b ≡ 0 → ⊥) → delimiter b ≡ 45 ∷ []
-unfolding delimiter
-delimiter-yes b e = rw (ne-eqb b 0 e)
-
 -- ---- a whole label
 
-plain-high : (l : List ℕ) → 1 ≤ length l → allOf (within 0x80 0xD7FF) l ≡ true → anyOf (leb 0x80) l ≡ true
-unfolding allOf anyOf
-plain-high [] h e = absurd (omega arith)
-plain-high (c ∷ l) h e = rw (le-leb 0x80 c (in-range 0x80 0xD7FF c (both (within 0x80 0xD7FF c) _ e .0) .0))
+no-high : (l : List ℕ) → length l ≤ length (below 0x80 l) → anyOf (leb 0x80) l ≡ false
+unfolding anyOf below
+no-high [] h = refl
+no-high (c ∷ l) h = split c 0x80
+    (λ x. rw (lt-leb 0x80 c x) (no-high l (omega (arith, rw (lt-ltb c 0x80 x) at h))))
+    (λ x. absurd (omega (arith, rw (le-ltb c 0x80 x) at h, length-below 0x80 l)))
 
-pub encodable-plain : (l : List ℕ) → 1 ≤ length l → length l ≤ 63 → allOf (within 0x80 0xD7FF) l ≡ true → true ≡ encodable l
-unfolding encodable
-encodable-plain l h g e = rw (inside 1 63 (length l) h g, all-weaker (within 0x80 0xD7FF) allowed plain-allowed l e, plain-high l h e)
+any-high : (l : List ℕ) → length (below 0x80 l) < length l → anyOf (leb 0x80) l ≡ true
+unfolding anyOf below
+any-high [] h = absurd (omega arith)
+any-high (c ∷ l) h = split c 0x80
+    (λ x. rw (lt-leb 0x80 c x) (any-high l (omega (arith, rw (lt-ltb c 0x80 x) at h))))
+    (λ x. rw (le-leb 0x80 c x))
 
 module _ (l : List ℕ) where
   pub encodable-size : (1 ≤ length l → length l ≤ 63 → ⊥) → false ≡ encodable l
   unfolding encodable
   encodable-size f = rw (outside 1 63 (length l) f)
 
-  module _ (h : 1 ≤ length l) (g : length l ≤ 63) (r : Bool) (each : r ≡ allOf allowed l) where
+  pub encodable-basic : length l ≤ length (below 0x80 l) → false ≡ encodable l
+  unfolding encodable
+  encodable-basic h = rw (no-high l h, and-false, and-false)
+
+  module _ (r : Bool) (each : r ≡ allOf allowed l) where
     pub encodable-bad : r ≡ false → false ≡ encodable l
     unfolding encodable
-    encodable-bad e = rw (inside 1 63 (length l) h g, sym each ∙ e)
+    encodable-bad e = rw (sym each ∙ e, and-false)
 
-    pub encodable-rest : (s : Bool) → r ≡ true → s ≡ anyOf (leb 0x80) l → s ≡ encodable l
+    pub encodable-high : r ≡ true → length l ≤ 63 → length (below 0x80 l) < length l → true ≡ encodable l
     unfolding encodable
-    encodable-rest s e p = rw (inside 1 63 (length l) h g, sym each ∙ e) p
+    encodable-high e g h = rw (inside 1 63 (length l) (omega arith) g, sym each ∙ e, any-high l h)

@@ -19,7 +19,7 @@ use Rattle.punycode.proofs.RoundTrip.{extended-has, decode-encode}
 
 -- ---- the code points of an encodable label
 
-point-bounded : (c : ℕ) → allowed c ≡ true → c < 0x110000
+pub point-bounded : (c : ℕ) → allowed c ≡ true → c < 0x110000
 unfolding allowed ldh alnum wide
 point-bounded c h = split c 0x110000 (λ x. x)
     (λ g. absurd (false≢true (rw (

@@ -3,3 +3,4 @@ pub mod Calls
 pub mod Samples
 pub mod Decoding
 pub mod Inner
+pub mod Order

@@ -7,7 +7,6 @@ use crate::bias::LIMIT;
 use crate::bias::adapt;
 use crate::bias::threshold;
 use crate::coder::ace;
-use crate::label::encodable;
 ghost use Prim.Native.Nat.{min, _+_, _-_, _*_, _≤_, _<_};
 ghost use mathlib.Core.Bool.{true, false, _&&_};
 ghost use mathlib.Core.List.{map};
@@ -247,11 +246,16 @@ fn encodes(l: &[u32], low: &[u8]) -> bool
     requires { ⌜ length (now low) ≤ 63 ⌝ }
     ensures { λ r. ⌜ r ≡ Decoding.encodes (now (l .entry)) (now (low .entry)) ⌝ }
 {
-    if !encodable(l) {
+    if l.len() > 63 {
         return false;
     }
     let mut text = [0u8; 80];
-    let m = ace(l, &mut text);
+    let coded = ace(l, &mut text);
+    let m = coded.at;
+    let ok = coded.ok;
+    if !ok {
+        return false;
+    }
     check::same(&text[0..m], low)
 }
 

@@ -48,11 +48,16 @@ pub fn encode(label: &[u32], out: &mut [u8]) -> Coded
     if out.len() < ROOM {
         return refused(SHORT);
     }
-    if !label::encodable(label) {
+    if label.len() > ROOM {
         return refused(UNFIT);
     }
     let mut text = [0u8; 80];
-    let n = coder::ace(label, &mut text);
+    let coded = coder::ace(label, &mut text);
+    let n = coded.at;
+    let ok = coded.ok;
+    if !ok {
+        return refused(UNFIT);
+    }
     if n > ROOM {
         return refused(LONG);
     }
