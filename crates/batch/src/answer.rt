@@ -12,6 +12,7 @@ ghost use lib.ListN.{length};
 ghost use Rattle.rules.specs.Editions.{todayWith};
 ghost use Rattle.batch.specs.Answer.{decimal, letter, answerLine, badAnswer, goodAnswer, answerTo};
 ghost use Rattle.batch.specs.Answers.{AnswersLine, PutsAt, frontOf, fieldsAnswer};
+ghost use Rattle.batch.specs.Next.{Quick};
 
 const LF: u8 = 0x0A;
 
@@ -219,5 +220,24 @@ pub fn answer(kanji: &[u32], line: &[u8], out: &mut [u8]) -> Wrote
     Wrote {
         done: true,
         length: put_answer(kanji, line, out),
+    }
+}
+
+// Whether the line was answered, where its LF is, and how many bytes were written.
+pub struct Next {
+    pub done: bool,
+    pub end: usize,
+    pub length: usize,
+}
+
+// Answers the usual line, straight from the input, up to its LF. Of another nothing is said, and nothing is written for it.
+pub(crate) fn quick(kanji: &[u32], s: &[u8], at: usize, out: &mut [u8]) -> Next
+    requires { ⌜ (at ≤ length (now s)) × (256 ≤ length (now out)) ⌝ }
+    ensures { λ r. ⌜ Quick (answerTo (todayWith (now (kanji .entry)))) (now (s .entry)) at (now (out .entry)) (now (out .exit)) r ⌝ }
+{
+    Next {
+        done: false,
+        end: at,
+        length: 0,
     }
 }
