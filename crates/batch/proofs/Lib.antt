@@ -4,6 +4,7 @@ mod LineFields
 pub mod OneTab
 mod Pieces
 pub mod Digits
+mod Placing
 mod Answering
 pub mod Whole
 mod Asked

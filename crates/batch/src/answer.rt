@@ -127,18 +127,23 @@ fn put_bad(out: &mut [u8]) -> usize
     put_line(&none, 16, 0, Class::None, &none, out)
 }
 
-// Puts the answer to a line with this id and this text as its name.
+// Puts the answer to a line with this id and this text as its name. The form goes straight to its place.
 fn put_text(kanji: &[u32], id: &[u8], text: &[u32], out: &mut [u8]) -> usize
     requires { ⌜ (length (now id) ≤ 32) × (256 ≤ length (now out)) ⌝ }
     ensures { λ r. ⌜ PutsAt (goodAnswer (todayWith (now (kanji .entry))) (now (id .entry)) (now (text .entry))) (now (out .entry)) (now (out .exit)) 0 r ⌝ }
 {
-    let mut form = [0u8; 192];
-    let checked = names::to_ascii_with(kanji, text, &mut form);
+    let start = id.len() + 7;
+    let end = start + 192;
+    let checked = names::to_ascii_with(kanji, text, &mut out[start..end]);
     let number = checked.number as usize;
     let class = checked.class;
     if number == 0 {
-        let length = checked.length;
-        return put_line(id, number, checked.place, class, &form[0..length], out);
+        let letter = class_letter(class);
+        let a = put_front(id, 0, 0, out);
+        let b = put_byte(out, a, letter);
+        let c = put_byte(out, b, TAB);
+        let d = c + checked.length;
+        return put_byte(out, d, LF);
     }
     let none = [HYPHEN];
     put_line(id, number, checked.place, class, &none, out)
@@ -151,8 +156,8 @@ fn lent(count: usize) -> usize
     if count < 257 { count } else { 257 }
 }
 
-// Puts the answer to a line with these two fields, the name being of any length.
-fn put_any(kanji: &[u32], id: &[u8], name: &[u8], out: &mut [u8]) -> usize
+// Puts the answer to a line with these two fields.
+fn put_fields(kanji: &[u32], id: &[u8], name: &[u8], out: &mut [u8]) -> usize
     requires { ⌜ 256 ≤ length (now out) ⌝ }
     ensures { λ r. ⌜ PutsAt (fieldsAnswer (todayWith (now (kanji .entry))) (now (id .entry)) (now (name .entry))) (now (out .entry)) (now (out .exit)) 0 r ⌝ }
 {
@@ -165,26 +170,6 @@ fn put_any(kanji: &[u32], id: &[u8], name: &[u8], out: &mut [u8]) -> usize
         return put_bad(out);
     }
     let n = lent(decoded.count);
-    put_text(kanji, id, &text[0..n], out)
-}
-
-// Puts the answer to a line with these two fields. Most names have room in a small buffer, and the others are decoded again.
-fn put_fields(kanji: &[u32], id: &[u8], name: &[u8], out: &mut [u8]) -> usize
-    requires { ⌜ 256 ≤ length (now out) ⌝ }
-    ensures { λ r. ⌜ PutsAt (fieldsAnswer (todayWith (now (kanji .entry))) (now (id .entry)) (now (name .entry))) (now (out .entry)) (now (out .exit)) 0 r ⌝ }
-{
-    if !is_id(id) {
-        return put_bad(out);
-    }
-    let mut text = [0u32; 64];
-    let decoded = decode(name, &mut text);
-    if !decoded.ok {
-        return put_bad(out);
-    }
-    let n = decoded.count;
-    if 64 < n {
-        return put_any(kanji, id, name, out);
-    }
     put_text(kanji, id, &text[0..n], out)
 }
 
