@@ -7,9 +7,9 @@ use mathlib.Core.Logic.{⊎-elim}
 use Prim.Native.Nat.{ℕ, suc, _+_, _-_, _≤_, _<_, min}
 use native.Mathlib.Omega.{arith}
 use lib.Dec.{eqb, ltb}
-use lib.ListN.{length, take, drop, length-append, length-drop, length-take}
+use lib.ListN.{length, take, drop, length-drop, length-take}
 use lib.Seq.{take-all, take-at, length-take-le}
-use borrow.Author.Tests.{lt-ltb, le-ltb, le-leb, lt-leb, eq-eqb, ne-eqb, ltb-true}
+use borrow.Author.Tests.{lt-ltb, le-ltb, le-leb, lt-leb, ne-eqb, ltb-true}
 use Rattle.lists.specs.Tests.{pick, firstOf}
 use Rattle.lists.specs.Front.{written}
 use Rattle.lists.specs.Rows.{first}
@@ -69,9 +69,12 @@ module _ (P : Permits) (id name : List ℕ) where
   unfolding fieldsAnswer
   bad-name e f = simp (e, f)
 
-  pub good-fields : (text : List ℕ) → goodId id ≡ true → decoded name .ok ≡ true → text ≡ take 257 (decoded name .codes) → fieldsAnswer P id name ≡ goodAnswer P id text
+  pub fields-good : goodId id ≡ true → decoded name .ok ≡ true → fieldsAnswer P id name ≡ goodAnswer P id (decoded name .codes)
   unfolding fieldsAnswer
-  good-fields text e f g = simp (e, f) (sym (ap (goodAnswer P id) g ∙ cut P id (decoded name .codes)))
+  fields-good e f = simp (e, f)
+
+  pub good-fields : (text : List ℕ) → goodId id ≡ true → decoded name .ok ≡ true → text ≡ take 257 (decoded name .codes) → fieldsAnswer P id name ≡ goodAnswer P id text
+  good-fields text e f g = fields-good e f ∙ sym (ap (goodAnswer P id) g ∙ cut P id (decoded name .codes))
 
 -- ---- the line
 

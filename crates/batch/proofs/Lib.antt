@@ -6,6 +6,8 @@ mod Pieces
 pub mod Digits
 mod Placing
 mod Answering
+mod Reading
+mod Usual
 pub mod Whole
 mod Asked
 pub mod Cuts

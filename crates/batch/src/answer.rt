@@ -1,11 +1,14 @@
 // The answer to a line: id, number, place, class and ASCII form, tab-parted and ended by LF.
 use crate::fields::Parts;
 use crate::fields::TAB;
+use crate::fields::id_end;
 use crate::fields::is_id;
 use crate::fields::split;
 use crate::utf8::decode;
+use crate::utf8::read_name;
 use rules::Class;
 ghost use mathlib.Core.Path.{_≡_};
+ghost use mathlib.Core.Bool.{false};
 ghost use mathlib.Core.List.{[], _∷_};
 ghost use Prim.Native.Nat.{_+_, _≤_, _<_, _%_, min};
 ghost use lib.ListN.{length};
@@ -215,14 +218,45 @@ pub struct Next {
     pub length: usize,
 }
 
+fn unusual() -> Next
+    ensures { λ r. ⌜ r .done ≡ false ⌝ }
+{
+    Next {
+        done: false,
+        end: 0,
+        length: 0,
+    }
+}
+
 // Answers the usual line, straight from the input, up to its LF. Of another nothing is said, and nothing is written for it.
 pub(crate) fn quick(kanji: &[u32], s: &[u8], at: usize, out: &mut [u8]) -> Next
     requires { ⌜ (at ≤ length (now s)) × (256 ≤ length (now out)) ⌝ }
     ensures { λ r. ⌜ Quick (answerTo (todayWith (now (kanji .entry)))) (now (s .entry)) at (now (out .entry)) (now (out .exit)) r ⌝ }
 {
+    let tab = id_end(s, at);
+    if s.len() <= tab {
+        return unusual();
+    }
+    if s[tab] != TAB {
+        return unusual();
+    }
+    if tab == at {
+        return unusual();
+    }
+    if 32 < tab - at {
+        return unusual();
+    }
+    let mut text = [0u32; 64];
+    let start = tab + 1;
+    let read = read_name(&s[start..], &mut text);
+    if !read.ok {
+        return unusual();
+    }
+    let n = read.count;
+    let length = put_text(kanji, &s[at..tab], &text[0..n], out);
     Next {
-        done: false,
-        end: at,
-        length: 0,
+        done: true,
+        end: start + read.end,
+        length,
     }
 }
