@@ -1,4 +1,4 @@
--- The answer to a line, on plain lists: from what the whole ASCII form's call says of the text, to the fields, to the line.
+-- The answer to a line, on plain lists: from a text to the fields, to the line.
 -- Assumes nothing.
 use mathlib.Core.Path.{_≡_, refl, sym, ap, _∙_}
 use mathlib.Core.Bool.{Bool, true, false}
@@ -7,23 +7,19 @@ use mathlib.Core.Logic.{⊎-elim}
 use Prim.Native.Nat.{ℕ, suc, _+_, _-_, _≤_, _<_, min}
 use native.Mathlib.Omega.{arith}
 use lib.Dec.{eqb, ltb}
-use lib.ListN.{length, take, drop, length-append, length-drop, length-take}
+use lib.ListN.{length, take, drop, length-drop, length-take}
 use lib.Seq.{take-all, take-at, length-take-le}
-use borrow.Author.Tests.{lt-ltb, le-ltb, le-leb, lt-leb, eq-eqb, ne-eqb, ltb-true}
+use borrow.Author.Tests.{lt-ltb, le-ltb, le-leb, lt-leb, ne-eqb, ltb-true}
 use Rattle.lists.specs.Tests.{pick, firstOf}
 use Rattle.lists.specs.Front.{written}
-use Rattle.lists.specs.Rows.{Answer, first, given}
+use Rattle.lists.specs.Rows.{first}
 use Rattle.lists.proofs.Laws.{both, lt-or-le}
-use Rattle.lists.proofs.Fronts.{front, untouched}
-use Rattle.lists.proofs.Tables.{passed-over, hit, given-all}
-use Rattle.normal.specs.Normal.{normalForm}
-use Rattle.rules.specs.Labels.{labels}
+use Rattle.lists.proofs.Fronts.{untouched}
+use Rattle.lists.proofs.Tables.{passed-over, hit}
 use Rattle.rules.specs.Permits.{Permits}
 use Rattle.rules.specs.Rules.{textRows, verdict}
 use Rattle.rules.specs.declared.Class.the-variants.{None}
-use Rattle.rules.specs.declared.Verdict.{Verdict}
-use Rattle.names.specs.Calls.{checked, Answers, asciiForm, asciiRows}
-use Rattle.names.specs.declared.Checked.{Checked}
+use Rattle.names.specs.Calls.{asciiRows}
 use Rattle.batch.specs.declared.fields.Parts.the-variants.{Two, Other}
 use Rattle.batch.specs.Utf8.{decoded}
 use Rattle.batch.specs.Answer.{tab, idOf, nameOf, oneTab, goodId, badLine, answerLine, badAnswer, goodAnswer, answerTo}
@@ -31,51 +27,6 @@ use Rattle.batch.specs.Fields.{partsOf}
 use Rattle.batch.specs.Answers.{roomy, answered, AnswersLine, PutsAt, fieldsAnswer}
 use Rattle.batch.proofs.LineFields.{any-first}
 use Rattle.batch.proofs.Pieces.{puts-length, puts-written}
-
--- ---- a text: what the call for its whole ASCII form answered and wrote is what the line says
-
-abbrev told : Permits → List ℕ → Answer
-told P text = first (asciiRows P text 192)
-
-abbrev form : Permits → List ℕ → List ℕ
-form P text = asciiForm P (normalForm text)
-
-module _ (P : Permits) (text : List ℕ) {before after : List ℕ} {r : Checked} (A : Answers (asciiRows P text 192) text (form P text) before after r) where
-  says-number : r .number ≡ told P text .number
-  unfolding checked verdict
-  says-number = ap (λ (x : Checked). x .number) (A .result)
-
-  says-length : r .length ≡ length (given (told P text) (form P text))
-  unfolding checked
-  says-length = ap (λ (x : Checked). x .length) (A .result)
-
-  -- what was written had room
-  pub had-room : length after ≡ length before → r .length ≤ length before
-  unfolding written
-  had-room e =
-      let g : List ℕ = given (told P text) (form P text) in
-      omega (arith, says-length, ap length (A .buffer) ∙ length-append g (drop (length g) before), e)
-
-  module _ (id : List ℕ) where
-    with-form : (l : List ℕ) → l ≡ pick (eqb (told P text .number) 0) (form P text) (0x2D ∷ [])
-        → answerLine id (r .number) (r .place) (r .class) l ≡ goodAnswer P id text
-    unfolding goodAnswer checked
-    with-form l e =
-        let v : Verdict = verdict (told P text) (labels (normalForm text)) in
-        ap (λ (x : Checked). answerLine id (x .number) (x .place) (x .class) l) (A .result)
-        ∙ ap (λ (k : List ℕ). answerLine id (v .number) (v .place) (v .class) k) e
-
-    pub accepted-line : r .number ≡ 0 → answerLine id (r .number) (r .place) (r .class) (take (r .length - 0) after) ≡ goodAnswer P id text
-    accepted-line e =
-        let g : List ℕ = given (told P text) (form P text) in
-        let z : told P text .number ≡ 0 = sym says-number ∙ e in
-        let n : r .length - 0 ≡ length g = omega (arith, says-length) in
-        let stands : take (r .length - 0) after ≡ form P text =
-        ap (λ (k : ℕ). take k after) n ∙ ap (take (length g)) (A .buffer) ∙ front g before ∙ given-all (told P text) (form P text) z in
-        with-form (take (r .length - 0) after) (stands ∙ rw (eq-eqb (told P text .number) 0 z))
-
-    pub refused-line : (r .number ≡ 0 → ⊥) → answerLine id (r .number) (r .place) (r .class) (0x2D ∷ []) ≡ goodAnswer P id text
-    refused-line e = with-form (0x2D ∷ []) (rw (ne-eqb (told P text .number) 0 (λ z. e (says-number ∙ z))))
 
 -- ---- a text of more than 256 code points is refused with 3 at 256, whatever it holds
 
@@ -109,16 +60,6 @@ lent-name codes before after n e f g =
     let k : n - 0 ≡ length (take 257 codes) = omega (arith, length-take 257 codes) in
     ap (take (n - 0)) f ∙ rw e (rw k (take-at (take 257 codes) _ (length (take 257 codes)) refl))
 
--- and of one that has room: all of it
-pub lent-short : (codes before after : List ℕ) (n : ℕ) → length before ≡ 64 → after ≡ written (take (length before) codes) before → n ≡ length codes
-    → n ≤ 64 → take (n - 0) after ≡ take 257 codes
-unfolding written
-lent-short codes before after n e f g h =
-    let k : n - 0 ≡ length codes = omega arith in
-    let small : take 64 codes ≡ codes = take-all 64 codes (omega arith) in
-    let all : take 257 codes ≡ codes = take-all 257 codes (omega arith) in
-    ap (take (n - 0)) f ∙ rw (e, small, all, k) (take-at codes _ (length codes) refl)
-
 module _ (P : Permits) (id name : List ℕ) where
   pub bad-id : goodId id ≡ false → fieldsAnswer P id name ≡ badAnswer
   unfolding fieldsAnswer
@@ -128,9 +69,12 @@ module _ (P : Permits) (id name : List ℕ) where
   unfolding fieldsAnswer
   bad-name e f = simp (e, f)
 
-  pub good-fields : (text : List ℕ) → goodId id ≡ true → decoded name .ok ≡ true → text ≡ take 257 (decoded name .codes) → fieldsAnswer P id name ≡ goodAnswer P id text
+  pub fields-good : goodId id ≡ true → decoded name .ok ≡ true → fieldsAnswer P id name ≡ goodAnswer P id (decoded name .codes)
   unfolding fieldsAnswer
-  good-fields text e f g = simp (e, f) (sym (ap (goodAnswer P id) g ∙ cut P id (decoded name .codes)))
+  fields-good e f = simp (e, f)
+
+  pub good-fields : (text : List ℕ) → goodId id ≡ true → decoded name .ok ≡ true → text ≡ take 257 (decoded name .codes) → fieldsAnswer P id name ≡ goodAnswer P id text
+  good-fields text e f g = fields-good e f ∙ sym (ap (goodAnswer P id) g ∙ cut P id (decoded name .codes))
 
 -- ---- the line
 

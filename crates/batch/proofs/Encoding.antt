@@ -60,7 +60,7 @@ module _ (b : ℕ) (s : List ℕ) where
 -- ---- encoding by digits
 
 module _ (c : ℕ) where
-  enc1 : c < 0x80 → encode c ≡ c ∷ []
+  pub enc1 : c < 0x80 → encode c ≡ c ∷ []
   unfolding encode
   enc1 h = rw (lt-ltb c 0x80 h)
 
@@ -105,7 +105,7 @@ module _ (h m n l : ℕ) (s : List ℕ) (pm : m < 64) (pn : n < 64) (pl : l < 64
       let b : (h * 64 + l) % 64 ≡ l = omega arith in
       enc2 (h * 64 + l) q (omega arith) ∙ rw (a, b)
 
-  enc-three : h < 16 → 0x800 ≤ (h * 64 + m) * 64 + l → encode ((h * 64 + m) * 64 + l) ≡ (0xE0 + h) ∷ (0x80 + m) ∷ (0x80 + l) ∷ []
+  pub enc-three : h < 16 → 0x800 ≤ (h * 64 + m) * 64 + l → encode ((h * 64 + m) * 64 + l) ≡ (0xE0 + h) ∷ (0x80 + m) ∷ (0x80 + l) ∷ []
   enc-three p q =
       let a : ((h * 64 + m) * 64 + l) / 64 ≡ h * 64 + m = omega arith in
       let b : ((h * 64 + m) * 64 + l) % 64 ≡ l = omega arith in
@@ -263,7 +263,7 @@ module _ (a : ℕ) (s : List ℕ) where
         parts = rw (enc-four (a - 0xF0) (x .digit) (y .digit) (w .digit) [] (x .small) (y .small) (w .small) (w .then .0)) (cc (x .parts, y .parts, w .parts, z));
       }
 
-  small-scalar : a < 0x80 → scalar a ≡ true
+  pub small-scalar : a < 0x80 → scalar a ≡ true
   unfolding scalar
   small-scalar h = rw (lt-ltb a 0xD800 (omega arith))
 

@@ -4,7 +4,10 @@ mod LineFields
 pub mod OneTab
 mod Pieces
 pub mod Digits
+mod Placing
 mod Answering
+mod Reading
+mod Usual
 pub mod Whole
 mod Asked
 pub mod Cuts

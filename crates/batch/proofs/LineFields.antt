@@ -2,7 +2,7 @@
 -- makes a byte one of an id.
 -- Assumes nothing.
 use mathlib.Core.Path.{_≡_, refl, sym, ap, _∙_}
-use mathlib.Core.Bool.{Bool, true, false, _||_}
+use mathlib.Core.Bool.{Bool, true, false, not, _||_}
 use mathlib.Core.List.{List, [], _∷_}
 use mathlib.Core.Logic.{⊎-elim}
 use Prim.Native.Nat.{ℕ, suc, _+_, _-_, _≤_, _<_}
@@ -64,6 +64,10 @@ module _ (line : List ℕ) (f g : Stretch) (ef : f ≡ fieldAt line 0) where
         simp (some-tab, any-first tab (nameOf line), le-ltb (firstOf tab (nameOf line)) (length (nameOf line)) (omega (arith, name-ends, name-length))) (ap Two tab-at)
 
 -- ---- a byte of an id
+
+-- what is none
+abbrev pub noId : ℕ → Bool
+noId b = not (idByte b)
 
 module _ (b : ℕ) where
   pub upper : 0x41 ≤ b → b ≤ 0x5A → true ≡ idByte b

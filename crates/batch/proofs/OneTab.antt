@@ -32,7 +32,7 @@ cut-at-tab (x ∷ xs) e = go (eqb x 0x09) refl e (cut-at-tab xs)
     go true p h on = ap (λ (c : ℕ). c ∷ xs) (eqb-true x 0x09 p)
     go false p h on = ap (λ (l : List ℕ). x ∷ l) (on h)
 
-first-past : (f : ℕ → Bool) (xs : List ℕ) (c : ℕ) (ys : List ℕ) → anyOf f xs ≡ false → f c ≡ true → firstOf f (xs ++ c ∷ ys) ≡ length xs
+pub first-past : (f : ℕ → Bool) (xs : List ℕ) (c : ℕ) (ys : List ℕ) → anyOf f xs ≡ false → f c ≡ true → firstOf f (xs ++ c ∷ ys) ≡ length xs
 unfolding anyOf firstOf
 first-past f [] c ys e h = rw h
 first-past f (x ∷ xs) c ys e h = let p = neither (f x) (anyOf f xs) e in rw (p .0) (ap suc (first-past f xs c ys (p .1) h))

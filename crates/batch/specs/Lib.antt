@@ -7,3 +7,4 @@ pub mod Fields
 pub mod Answers
 pub mod Stream
 pub mod Feed
+pub mod Next

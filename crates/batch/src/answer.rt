@@ -1,17 +1,21 @@
 // The answer to a line: id, number, place, class and ASCII form, tab-parted and ended by LF.
 use crate::fields::Parts;
 use crate::fields::TAB;
+use crate::fields::id_end;
 use crate::fields::is_id;
 use crate::fields::split;
 use crate::utf8::decode;
+use crate::utf8::read_name;
 use rules::Class;
 ghost use mathlib.Core.Path.{_≡_};
+ghost use mathlib.Core.Bool.{false};
 ghost use mathlib.Core.List.{[], _∷_};
 ghost use Prim.Native.Nat.{_+_, _≤_, _<_, _%_, min};
 ghost use lib.ListN.{length};
 ghost use Rattle.rules.specs.Editions.{todayWith};
 ghost use Rattle.batch.specs.Answer.{decimal, letter, answerLine, badAnswer, goodAnswer, answerTo};
 ghost use Rattle.batch.specs.Answers.{AnswersLine, PutsAt, frontOf, fieldsAnswer};
+ghost use Rattle.batch.specs.Next.{Quick};
 
 const LF: u8 = 0x0A;
 
@@ -126,18 +130,23 @@ fn put_bad(out: &mut [u8]) -> usize
     put_line(&none, 16, 0, Class::None, &none, out)
 }
 
-// Puts the answer to a line with this id and this text as its name.
+// Puts the answer to a line with this id and this text as its name. The form goes straight to its place.
 fn put_text(kanji: &[u32], id: &[u8], text: &[u32], out: &mut [u8]) -> usize
     requires { ⌜ (length (now id) ≤ 32) × (256 ≤ length (now out)) ⌝ }
     ensures { λ r. ⌜ PutsAt (goodAnswer (todayWith (now (kanji .entry))) (now (id .entry)) (now (text .entry))) (now (out .entry)) (now (out .exit)) 0 r ⌝ }
 {
-    let mut form = [0u8; 192];
-    let checked = names::to_ascii_with(kanji, text, &mut form);
+    let start = id.len() + 7;
+    let end = start + 192;
+    let checked = names::to_ascii_with(kanji, text, &mut out[start..end]);
     let number = checked.number as usize;
     let class = checked.class;
     if number == 0 {
-        let length = checked.length;
-        return put_line(id, number, checked.place, class, &form[0..length], out);
+        let letter = class_letter(class);
+        let a = put_front(id, 0, 0, out);
+        let b = put_byte(out, a, letter);
+        let c = put_byte(out, b, TAB);
+        let d = c + checked.length;
+        return put_byte(out, d, LF);
     }
     let none = [HYPHEN];
     put_line(id, number, checked.place, class, &none, out)
@@ -150,8 +159,8 @@ fn lent(count: usize) -> usize
     if count < 257 { count } else { 257 }
 }
 
-// Puts the answer to a line with these two fields, the name being of any length.
-fn put_any(kanji: &[u32], id: &[u8], name: &[u8], out: &mut [u8]) -> usize
+// Puts the answer to a line with these two fields.
+fn put_fields(kanji: &[u32], id: &[u8], name: &[u8], out: &mut [u8]) -> usize
     requires { ⌜ 256 ≤ length (now out) ⌝ }
     ensures { λ r. ⌜ PutsAt (fieldsAnswer (todayWith (now (kanji .entry))) (now (id .entry)) (now (name .entry))) (now (out .entry)) (now (out .exit)) 0 r ⌝ }
 {
@@ -164,26 +173,6 @@ fn put_any(kanji: &[u32], id: &[u8], name: &[u8], out: &mut [u8]) -> usize
         return put_bad(out);
     }
     let n = lent(decoded.count);
-    put_text(kanji, id, &text[0..n], out)
-}
-
-// Puts the answer to a line with these two fields. Most names have room in a small buffer, and the others are decoded again.
-fn put_fields(kanji: &[u32], id: &[u8], name: &[u8], out: &mut [u8]) -> usize
-    requires { ⌜ 256 ≤ length (now out) ⌝ }
-    ensures { λ r. ⌜ PutsAt (fieldsAnswer (todayWith (now (kanji .entry))) (now (id .entry)) (now (name .entry))) (now (out .entry)) (now (out .exit)) 0 r ⌝ }
-{
-    if !is_id(id) {
-        return put_bad(out);
-    }
-    let mut text = [0u32; 64];
-    let decoded = decode(name, &mut text);
-    if !decoded.ok {
-        return put_bad(out);
-    }
-    let n = decoded.count;
-    if 64 < n {
-        return put_any(kanji, id, name, out);
-    }
     put_text(kanji, id, &text[0..n], out)
 }
 
@@ -219,5 +208,55 @@ pub fn answer(kanji: &[u32], line: &[u8], out: &mut [u8]) -> Wrote
     Wrote {
         done: true,
         length: put_answer(kanji, line, out),
+    }
+}
+
+// Whether the line was answered, where its LF is, and how many bytes were written.
+pub struct Next {
+    pub done: bool,
+    pub end: usize,
+    pub length: usize,
+}
+
+fn unusual() -> Next
+    ensures { λ r. ⌜ r .done ≡ false ⌝ }
+{
+    Next {
+        done: false,
+        end: 0,
+        length: 0,
+    }
+}
+
+// Answers the usual line, straight from the input, up to its LF. Of another nothing is said, and nothing is written for it.
+pub(crate) fn quick(kanji: &[u32], s: &[u8], at: usize, out: &mut [u8]) -> Next
+    requires { ⌜ (at ≤ length (now s)) × (256 ≤ length (now out)) ⌝ }
+    ensures { λ r. ⌜ Quick (answerTo (todayWith (now (kanji .entry)))) (now (s .entry)) at (now (out .entry)) (now (out .exit)) r ⌝ }
+{
+    let tab = id_end(s, at);
+    if s.len() <= tab {
+        return unusual();
+    }
+    if s[tab] != TAB {
+        return unusual();
+    }
+    if tab == at {
+        return unusual();
+    }
+    if 32 < tab - at {
+        return unusual();
+    }
+    let mut text = [0u32; 64];
+    let start = tab + 1;
+    let read = read_name(&s[start..], &mut text);
+    if !read.ok {
+        return unusual();
+    }
+    let n = read.count;
+    let length = put_text(kanji, &s[at..tab], &text[0..n], out);
+    Next {
+        done: true,
+        end: start + read.end,
+        length,
     }
 }

@@ -1,9 +1,11 @@
 // UTF-8 (RFC 3629): the code points of bytes.
 ghost use mathlib.Core.Path.{_≡_};
-ghost use Prim.Native.Nat.{_+_, _^_, _<_};
-ghost use lib.ListN.{set};
-ghost use Rattle.lists.specs.Tests.{within};
-ghost use Rattle.batch.specs.Utf8.{whole};
+ghost use mathlib.Core.Bool.{true};
+ghost use Prim.Native.Nat.{_+_, _^_, _≤_, _<_, min};
+ghost use lib.Dec.{leb};
+ghost use lib.ListN.{length, take, set, getD};
+ghost use Rattle.lists.specs.Tests.{within, allOf};
+ghost use Rattle.batch.specs.Utf8.{whole, decoded};
 ghost use Rattle.batch.specs.Decodes.{decodedAs, Decodes, Leads};
 
 // Whether all bytes are well-formed, and how many code points there are before the first fault.
@@ -80,11 +82,17 @@ fn is_whole(least: u32, v: u32) -> bool
     v <= 0x10FFFF
 }
 
+fn in_range(a: u32, b: u32, c: u32) -> bool
+    ensures { λ r. ⌜ r ≡ within a b c ⌝ }
+{
+    a <= c && c <= b
+}
+
 // A byte that goes on a value: 80 to BF.
 fn is_tail(b: u32) -> bool
     ensures { λ r. ⌜ r ≡ within 0x80 0xBF b ⌝ }
 {
-    0x80 <= b && b <= 0xBF
+    in_range(0x80, 0xBF, b)
 }
 
 // Writes c at n, where that is in the buffer; the next place.
@@ -145,4 +153,72 @@ pub fn decode(bytes: &[u8], out: &mut [u32]) -> Decoded
         }
     }
     told(need == 0, n)
+}
+
+// Whether a name was read up to an LF, how many code points it has, and where the LF is.
+pub struct Read {
+    pub ok: bool,
+    pub count: usize,
+    pub end: usize,
+}
+
+fn said(ok: bool, count: usize, end: usize) -> Read
+    ensures { λ r. ⌜ (r .ok ≡ ok) × (r .count ≡ count) × (r .end ≡ end) ⌝ }
+{
+    Read { ok, count, end }
+}
+
+// No name is read further.
+fn first_64(n: usize) -> usize
+    ensures { λ r. ⌜ r ≡ min n 64 ⌝ }
+{
+    if n < 64 { n } else { 64 }
+}
+
+// The first byte of three for a value of 1000 to CFFF: none is overlong, none a surrogate.
+fn is_first(b: u32) -> bool
+    ensures { λ r. ⌜ r ≡ within 0xE1 0xEC b ⌝ }
+{
+    in_range(0xE1, 0xEC, b)
+}
+
+// Reads a name of ASCII and such values up to an LF: its code points go to the start of out. Of any other nothing is said.
+pub(crate) fn read_name(s: &[u8], out: &mut [u32]) -> Read
+    requires { ⌜ 64 ≤ length (now out) ⌝ }
+    ensures place { λ r. ⌜ (r .ok ≡ true → (r .end < min (length (now (s .entry))) 64) × (getD (now (s .entry)) (r .end) 0 ≡ 0x0A) × (allOf (leb 0x20) (take (r .end) (now (s .entry))) ≡ true)) ⌝ }
+    ensures text { λ r. ⌜ (r .ok ≡ true → (r .count ≤ r .end) × (decoded (take (r .end) (now (s .entry))) ≡ record { codes = take (r .count) (now (out .exit)); ok = true })) ⌝ }
+{
+    let end = first_64(s.len());
+    let mut n = 0;
+    let mut i = 0;
+    while i < end {
+        let a = wide(s[i]);
+        if a < 0x80 {
+            if a < 0x20 {
+                return said(a == 0x0A, n, i);
+            }
+            out[n] = a;
+            n += 1;
+            i += 1;
+        } else {
+            if !is_first(a) {
+                return said(false, n, i);
+            }
+            if end <= i + 2 {
+                return said(false, n, i);
+            }
+            let b = wide(s[i + 1]);
+            let c = wide(s[i + 2]);
+            if !is_tail(b) {
+                return said(false, n, i);
+            }
+            if !is_tail(c) {
+                return said(false, n, i);
+            }
+            out[n] = (a % 16) * 4096 + (b % 64) * 64 + c % 64;
+            n += 1;
+            i += 3;
+        }
+    }
+    said(false, n, i)
 }

@@ -1,13 +1,13 @@
--- `put_fields` meets its contract: a bad id, a name that is not well-formed, or what is put for the code points of the name, which have
--- room or are decoded again.
+-- `put_fields` meets its contract: a bad id, a name that is not well-formed, or what is put for the code points of the name.
 -- Assumes nothing.
-use mathlib.Core.Path.{refl, sym, _∙_}
+use mathlib.Core.Path.{refl, sym, ap, _∙_}
+use Prim.Native.Nat.{ℕ, min}
 use lib.ListN.{replicate}
 use borrow.Author.Tests.{not-true, not-false}
 use Rattle.rules.specs.Editions.{todayWith}
 use Rattle.batch.specs.Utf8.{decoded}
 use Rattle.batch.proofs.LineFields.{id-length}
-use Rattle.batch.proofs.Answering.{bad-id, bad-name, good-fields, lent-short}
+use Rattle.batch.proofs.Answering.{bad-id, bad-name, good-fields, lent-name}
 use borrow.Author.Needs.{needs}
 use Rattle.batch.proofs.answer.put_fields.Statement.{statement}
 use Rattle.batch.proofs.answer.put_fields.Tie as tie
@@ -43,14 +43,8 @@ returns-2 c =
     let a = c .before .before .before .before .before .before .before .before .before .before .before .before .before .before .before .args in
     rw (bad-name (todayWith (a .kanji .now)) (a .id .now) (a .name .now) (sym (c .before .before .before .before .before .before .before .before .before .before .is-id .ensures) ∙ not-false _ (c .before .before .before .before .before .before .before .before .before .if1 .left)) (sym (c .before .before .before .before .before .before .before .decode .ensures .ok) ∙ not-true _ (c .before .before .before .before .if2 .taken))) (c .before .before .put-bad2 .ensures)
 
-put-any-requires : tie.Need-put-any-requires
-put-any-requires c κs = search needs
-
-same-length-3 : tie.Need-same-length-3
-same-length-3 c = search needs
-
-returns-3 : tie.Need-returns-3
-returns-3 c = c .before .before .put-any .ensures
+lent-requires : tie.Need-lent-requires
+lent-requires c κs = search needs
 
 sub-put-text : tie.Need-sub-put-text
 sub-put-text c = search needs
@@ -64,14 +58,15 @@ part-put-text-end c = search needs
 put-text-requires : tie.Need-put-text-requires
 put-text-requires c κs = search (needs, id-length (c .before .before .before .before .before .before .before .before .before .before .before .before .before .before .before .args .id .now) (sym (c .before .before .before .before .before .before .before .before .before .before .is-id .ensures) ∙ not-false _ (c .before .before .before .before .before .before .before .before .before .if1 .left)))
 
-same-length-4 : tie.Need-same-length-4
-same-length-4 c = search needs
+same-length-3 : tie.Need-same-length-3
+same-length-3 c = search needs
 
-returns-4 : tie.Need-returns-4
-returns-4 c =
+returns-3 : tie.Need-returns-3
+returns-3 c =
     let a = c .before .before .before .before .before .before .before .before .before .before .before .before .before .before .before .before .before .before .args in
     let d = c .before .before .before .before .before .before .before .before .before .before .decode in
-    let g = lent-short (decoded (a .name .now) .codes) (replicate 64 0) (d .last .1 .0) (d .result .count) refl (d .ensures .buffer) (d .ensures .count) (c .before .before .before .before .before .before .if3 .left) in
+    let n = c .before .before .before .before .before .before .lent in
+    let g = lent-name (decoded (a .name .now) .codes) (replicate 257 0) (d .last .1 .0) (n .result) refl (d .ensures .buffer) (n .ensures ∙ ap (λ (k : ℕ). min k 257) (d .ensures .count)) in
     rw (good-fields (todayWith (a .kanji .now)) (a .id .now) (a .name .now) _ (sym (c .before .before .before .before .before .before .before .before .before .before .before .before .before .is-id .ensures) ∙ not-false _ (c .before .before .before .before .before .before .before .before .before .before .before .before .if1 .left)) (sym (d .ensures .ok) ∙ not-false _ (c .before .before .before .before .before .before .before .if2 .left)) g) (c .before .before .put-text .ensures)
 
 pub put-fields-spec : {M : Type 1} → statement M
@@ -87,12 +82,10 @@ put-fields-spec =
     put-bad-requires-2
     same-length-2
     returns-2
-    put-any-requires
-    same-length-3
-    returns-3
+    lent-requires
     sub-put-text
     part-put-text-start
     part-put-text-end
     put-text-requires
-    same-length-4
-    returns-4)
+    same-length-3
+    returns-3)

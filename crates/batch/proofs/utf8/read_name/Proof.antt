@@ -1,0 +1,233 @@
+-- `read_name` meets its contract: what was read is the encoding of what was written, byte for byte, and an LF ends it.
+-- Assumes nothing.
+use mathlib.Core.Path.{_≡_, refl, sym, _∙_}
+use Prim.Native.Nat.{_-_}
+use native.Mathlib.Omega.{arith}
+use lib.ListN.{length, length-set}
+use borrow.Author.Tests.{eqb-true, not-false}
+use Rattle.lists.proofs.Laws.{clash}
+use Rattle.batch.proofs.Reading.{Seen, begins, text, one, three}
+use borrow.Author.Needs.{needs}
+use Rattle.batch.proofs.utf8.read_name.Statement.{statement}
+use Rattle.batch.proofs.utf8.read_name.Tie as tie
+
+abbrev Inv-loop : tie.InvT-loop
+Inv-loop s out₀ end n₀ i₀ out n i = (length out ≡ length out₀) × Seen s out n i
+
+abbrev μ-loop : tie.MeasureT-loop
+μ-loop s out₀ end n₀ i₀ out n i = length s - i
+
+first-64-requires : tie.Need-first-64-requires Inv-loop μ-loop
+first-64-requires c κs = search needs
+
+loop-holds : tie.Need-loop-holds Inv-loop μ-loop
+loop-holds c = (refl, begins _ _)
+
+shared-slice-read-wide : tie.Need-shared-slice-read-wide Inv-loop μ-loop
+shared-slice-read-wide c = search needs
+
+wide-requires : tie.Need-wide-requires Inv-loop μ-loop
+wide-requires c κs = search needs
+
+said-requires : tie.Need-said-requires Inv-loop μ-loop
+said-requires c κs = search needs
+
+same-length : tie.Need-same-length Inv-loop μ-loop
+same-length c = search needs
+
+returns : tie.Need-returns Inv-loop μ-loop
+returns c =
+    let k = c .before .before .before .before .before .before .loop .inv .1 in
+    let r = c .said .ensures in (
+      (λ e. (omega (arith, r .2), rw (r .2) (sym (c .before .before .before .wide .ensures .0) ∙ eqb-true _ _ (sym (r .0) ∙ e)), rw (r .2) (k .plainly))),
+      (λ e. (omega (arith, k .few, r .1, r .2), rw (r .1, r .2) (text k))),
+    )
+
+mul-out : tie.Need-mul-out Inv-loop μ-loop
+mul-out c = search needs
+
+slice-write-out : tie.Need-slice-write-out Inv-loop μ-loop
+slice-write-out c = search needs
+
+add-n : tie.Need-add-n Inv-loop μ-loop
+add-n c = search needs
+
+add-i : tie.Need-add-i Inv-loop μ-loop
+add-i c = search needs
+
+loop-less : tie.Need-loop-less Inv-loop μ-loop
+loop-less c = search needs
+
+loop-again : tie.Need-loop-again Inv-loop μ-loop
+loop-again c =
+    let l = c .before .before .before .before .before .loop in (
+      length-set (l .out) (l .n) _ ∙ l .inv .0,
+      one (l .inv .1) (search needs) (search needs) (c .before .before .wide .ensures .0) (c .before .if1 .taken) (c .if2 .left),
+    )
+
+is-first-requires : tie.Need-is-first-requires Inv-loop μ-loop
+is-first-requires c κs = search needs
+
+said-requires-2 : tie.Need-said-requires-2 Inv-loop μ-loop
+said-requires-2 c κs = search needs
+
+same-length-2 : tie.Need-same-length-2 Inv-loop μ-loop
+same-length-2 c = search needs
+
+returns-2 : tie.Need-returns-2 Inv-loop μ-loop
+returns-2 c = ((λ e. clash e (c .said2 .ensures .0)), (λ e. clash e (c .said2 .ensures .0)))
+
+add-if4 : tie.Need-add-if4 Inv-loop μ-loop
+add-if4 c = search needs
+
+said-requires-3 : tie.Need-said-requires-3 Inv-loop μ-loop
+said-requires-3 c κs = search needs
+
+same-length-3 : tie.Need-same-length-3 Inv-loop μ-loop
+same-length-3 c = search needs
+
+returns-3 : tie.Need-returns-3 Inv-loop μ-loop
+returns-3 c = ((λ e. clash e (c .said3 .ensures .0)), (λ e. clash e (c .said3 .ensures .0)))
+
+add-wide : tie.Need-add-wide Inv-loop μ-loop
+add-wide c = search needs
+
+shared-slice-read-wide-2 : tie.Need-shared-slice-read-wide-2 Inv-loop μ-loop
+shared-slice-read-wide-2 c = search needs
+
+wide-requires-2 : tie.Need-wide-requires-2 Inv-loop μ-loop
+wide-requires-2 c κs = search needs
+
+add-wide-2 : tie.Need-add-wide-2 Inv-loop μ-loop
+add-wide-2 c = search needs
+
+shared-slice-read-wide-3 : tie.Need-shared-slice-read-wide-3 Inv-loop μ-loop
+shared-slice-read-wide-3 c = search needs
+
+wide-requires-3 : tie.Need-wide-requires-3 Inv-loop μ-loop
+wide-requires-3 c κs = search needs
+
+is-tail-requires : tie.Need-is-tail-requires Inv-loop μ-loop
+is-tail-requires c κs = search needs
+
+said-requires-4 : tie.Need-said-requires-4 Inv-loop μ-loop
+said-requires-4 c κs = search needs
+
+same-length-4 : tie.Need-same-length-4 Inv-loop μ-loop
+same-length-4 c = search needs
+
+returns-4 : tie.Need-returns-4 Inv-loop μ-loop
+returns-4 c = ((λ e. clash e (c .said4 .ensures .0)), (λ e. clash e (c .said4 .ensures .0)))
+
+is-tail-requires-2 : tie.Need-is-tail-requires-2 Inv-loop μ-loop
+is-tail-requires-2 c κs = search needs
+
+said-requires-5 : tie.Need-said-requires-5 Inv-loop μ-loop
+said-requires-5 c κs = search needs
+
+same-length-5 : tie.Need-same-length-5 Inv-loop μ-loop
+same-length-5 c = search needs
+
+returns-5 : tie.Need-returns-5 Inv-loop μ-loop
+returns-5 c = ((λ e. clash e (c .said5 .ensures .0)), (λ e. clash e (c .said5 .ensures .0)))
+
+mul-out-2 : tie.Need-mul-out-2 Inv-loop μ-loop
+mul-out-2 c = search needs
+
+mul-out-3 : tie.Need-mul-out-3 Inv-loop μ-loop
+mul-out-3 c = search needs
+
+add-out : tie.Need-add-out Inv-loop μ-loop
+add-out c = search needs
+
+add-out-2 : tie.Need-add-out-2 Inv-loop μ-loop
+add-out-2 c = search needs
+
+mul-out-4 : tie.Need-mul-out-4 Inv-loop μ-loop
+mul-out-4 c = search needs
+
+slice-write-out-2 : tie.Need-slice-write-out-2 Inv-loop μ-loop
+slice-write-out-2 c = search needs
+
+add-n-2 : tie.Need-add-n-2 Inv-loop μ-loop
+add-n-2 c = search needs
+
+add-i-2 : tie.Need-add-i-2 Inv-loop μ-loop
+add-i-2 c = search needs
+
+loop-less-2 : tie.Need-loop-less-2 Inv-loop μ-loop
+loop-less-2 c = search needs
+
+loop-again-2 : tie.Need-loop-again-2 Inv-loop μ-loop
+loop-again-2 c =
+    let l = c .before .before .before .before .before .before .before .before .before .before .before .before .before .before .before .loop in (
+      length-set (l .out) (l .n) _ ∙ l .inv .0,
+      three (l .inv .1) (search needs) (search needs) (c .before .before .before .before .before .before .before .before .before .before .before .before .wide .ensures .0) (c .before .before .before .before .before .before .wide2 .ensures .0) (c .before .before .before .before .wide3 .ensures .0)
+          (sym (c .before .before .before .before .before .before .before .before .before .before .is-first .ensures) ∙ not-false _ (c .before .before .before .before .before .before .before .before .before .if3 .left))
+          (sym (c .before .before .before .is-tail .ensures) ∙ not-false _ (c .before .before .if5 .left))
+          (sym (c .before .is-tail2 .ensures) ∙ not-false _ (c .if6 .left)),
+    )
+
+said-requires-6 : tie.Need-said-requires-6 Inv-loop μ-loop
+said-requires-6 c κs = search needs
+
+same-length-6 : tie.Need-same-length-6 Inv-loop μ-loop
+same-length-6 c = search needs
+
+returns-6 : tie.Need-returns-6 Inv-loop μ-loop
+returns-6 c = ((λ e. clash e (c .said6 .ensures .0)), (λ e. clash e (c .said6 .ensures .0)))
+
+pub read-name-spec : {M : Type 1} → statement M
+read-name-spec =
+    tie.close
+    (tie.spec
+    Inv-loop
+    μ-loop
+    first-64-requires
+    loop-holds
+    shared-slice-read-wide
+    wide-requires
+    said-requires
+    same-length
+    returns
+    mul-out
+    slice-write-out
+    add-n
+    add-i
+    loop-less
+    loop-again
+    is-first-requires
+    said-requires-2
+    same-length-2
+    returns-2
+    add-if4
+    said-requires-3
+    same-length-3
+    returns-3
+    add-wide
+    shared-slice-read-wide-2
+    wide-requires-2
+    add-wide-2
+    shared-slice-read-wide-3
+    wide-requires-3
+    is-tail-requires
+    said-requires-4
+    same-length-4
+    returns-4
+    is-tail-requires-2
+    said-requires-5
+    same-length-5
+    returns-5
+    mul-out-2
+    mul-out-3
+    add-out
+    add-out-2
+    mul-out-4
+    slice-write-out-2
+    add-n-2
+    add-i-2
+    loop-less-2
+    loop-again-2
+    said-requires-6
+    same-length-6
+    returns-6)
