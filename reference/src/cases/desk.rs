@@ -8,6 +8,8 @@ pub fn add(file: &mut CaseFile) {
     shapes(file);
     ids(file);
     line_lengths(file);
+    name_lengths(file);
+    control_characters(file);
     utf8_sequences(file);
     random_lines(file);
 }
@@ -72,6 +74,26 @@ fn line_lengths(file: &mut CaseFile) {
     tabbed.resize(1024, b'a');
     tabbed.extend(b"\tabc.jp\nc\tabc.jp\n");
     file.batch(&tabbed);
+}
+
+/// Names of 61 to 67 bytes, in ASCII and in kana, last lines and others.
+fn name_lengths(file: &mut CaseFile) {
+    for length in 61..=67 {
+        for unit in ["a", "\u{3042}"] {
+            let mut name = unit.repeat((length - 3) / unit.len());
+            name.push_str(&"b".repeat(length - 3 - name.len()));
+            file.batch(format!("x\t{name}.jp").as_bytes());
+            file.batch(format!("x\t{name}.jp\ny\tabc.jp\n").as_bytes());
+        }
+    }
+}
+
+/// Each octet below 21 in a name, and at its end.
+fn control_characters(file: &mut CaseFile) {
+    for octet in 0..=0x20u8 {
+        file.batch(&[b"x\t\xE3\x81\x82", &[octet][..], b".jp\ny\tabc.jp\n"].concat());
+        file.batch(&[b"x\tabc.jp", &[octet][..], b"\ny\tabc.jp\n"].concat());
+    }
 }
 
 /// Well-formed and ill-formed UTF-8 of every kind, as the name.
