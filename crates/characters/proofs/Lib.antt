@@ -1,6 +1,7 @@
 pub mod Ranges
 pub mod Classes
 pub mod Bounds
+pub mod Stretches
 pub mod Lent
 pub mod Pairs
 pub mod Count
