@@ -2,16 +2,20 @@
 -- modulo 16, and so the start of the range need not be known.
 -- Assumes nothing.
 use mathlib.Core.Path.{_≡_, refl, sym, ap, _∙_}
-use mathlib.Core.Bool.{true, false}
+use mathlib.Core.Bool.{Bool, true, false, _||_}
 use mathlib.Core.List.{List, map}
 use mathlib.Core.Logic.{⊎-elim}
 use Prim.Native.Nat.{ℕ, _+_, _-_, _%_, _≤_}
 use native.Mathlib.Omega.{arith}
+use lib.Dec.{eqb}
 use lib.ListN.{getD, List·getD-map}
+use borrow.Author.Tests.{eqb-true}
 use Rattle.lists.specs.Tests.{within, allOf}
 use Rattle.lists.proofs.Laws.{inside, in-range, outside, lt-or-le}
 use Rattle.characters.specs.declared.Replacement.{Replacement}
 use Rattle.characters.specs.declared.Replacement.the-variants.{Letter, Digit, Hyphen, Separator, HalfKana, Mark, Other}
+use Rattle.characters.specs.Characters.{alnum, asciiSet}
+use Rattle.characters.specs.Characters as Characters
 use Rattle.characters.specs.Replace.{Range, range, ranges, rangeIn, classOf, halfKana, isHalf, replaceIn, replace}
 use Rattle.characters.proofs.Ranges.{settled, class-in, done, _also_, by-range}
 
@@ -121,6 +125,16 @@ stays c l h =
     ⊎-elim (λ a. sym (in-region 0x3003 0x309A c refl l (omega arith)))
     (λ a. ⊎-elim (λ b. sym (in-region 0x309B 0x309C c refl a (omega arith))) (λ b. sym (in-region 0x309D 0xFF0C c refl b h)) (lt-or-le c 0x309D))
     (lt-or-le c 0x309B)
+
+-- and so does the ASCII set
+pub ascii-stays : (c : ℕ) → asciiSet c ≡ true → c ≡ replace c
+unfolding within allOf ranges rangeIn classOf asciiSet alnum Characters.hyphen
+ascii-stays c e = go (within 0x30 0x39 c) refl (within 0x61 0x7A c) refl e
+  where
+    go : (d : Bool) → within 0x30 0x39 c ≡ d → (l : Bool) → within 0x61 0x7A c ≡ l → d || l || eqb c 0x2D ≡ true → c ≡ replace c
+    go true p l q e = let i = in-range 0x30 0x39 c p in sym (in-region 0x30 0x39 c refl (i .0) (i .1) ∙ omega arith)
+    go false p true q e = let i = in-range 0x61 0x7A c q in sym (in-region 0x61 0x7A c refl (i .0) (i .1) ∙ omega arith)
+    go false p false q e = let i = eqb-true c 0x2D e in sym (in-region 0x2D 0x2D c refl (omega arith) (omega arith) ∙ sym i)
 
 module _ (c : ℕ) where
   pub twice : replace (replace c) ≡ replace c

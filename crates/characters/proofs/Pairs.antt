@@ -100,7 +100,7 @@ base v = (eitherKana voiced v || elem v repeats) || (eqb v 0x30A6 || eitherKana 
 abbrev calm : ℕ → Bool
 calm v = (eqb (replace v) v && not (base v)) && (not (eqb v 0x309B) && not (eqb v 0x309C))
 
-unmarked : (b m : ℕ) → eqb m 0x309B ≡ false → eqb m 0x309C ≡ false → composed b m ≡ 0
+pub unmarked : (b m : ℕ) → eqb m 0x309B ≡ false → eqb m 0x309C ≡ false → composed b m ≡ 0
 unfolding composed
 unmarked b m p q = simp (p, q)
 

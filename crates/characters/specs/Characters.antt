@@ -45,3 +45,7 @@ kanjiWith table c = within 0x4E00 0x9FA0 c && bitSet (getD table ((c - 0x4E00) /
 
 unfoldable pub japaneseWith : List ℕ → ℕ → Bool
 japaneseWith table c = japaneseBy (kanjiWith table) c
+
+-- the same without the signs
+unfoldable pub kanaOrKanji : List ℕ → ℕ → Bool
+kanaOrKanji table c = hiragana c || (katakana c || kanjiWith table c)

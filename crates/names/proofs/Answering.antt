@@ -12,7 +12,7 @@ use lib.Seq.{take-all}
 use borrow.Author.Tests.{ne-eqb, lt-ltb, le-ltb, ltb-false}
 use Rattle.lists.specs.Tests.{allOf, anyOf}
 use Rattle.lists.specs.Front.{written}
-use Rattle.lists.specs.Rows.{Row, row, first, given}
+use Rattle.lists.specs.Rows.{Row, row, Answer, first, given}
 use Rattle.lists.proofs.Fronts.{untouched}
 use Rattle.lists.proofs.Tables.{Clear, clear, clear-before, hit, passed-over, refusing, accepted-clear, given-none}
 use Rattle.normal.specs.Normal.{normalForm}
@@ -64,7 +64,7 @@ module _ (P : Permits) (text : List ℕ) {lent after : List ℕ} {j : Checked} (
   unfolding rules verdict
   place-is = ap (λ (x : Checked). x .place) (e .result)
 
-  answer-is : first (textRows P text) ≡ record { number = j .number; place = j .place }
+  pub answer-is : first (textRows P text) ≡ record { number = j .number; place = j .place }
   answer-is = rw (number-is, place-is)
 
   pub passed : j .number ≡ 0 → Passed P text after j
@@ -112,25 +112,26 @@ module _ (P : Permits) (text before : List ℕ) where
   unfolding asciiRows
   ascii-no-room q h = answers-no _ text _ before q (hit 1 (ltb (length before) 192) 0 _ (lt-ltb (length before) 192 h)) (λ z. omega arith)
 
-  module _ (h : 192 ≤ length before) {lent form : List ℕ} {j : Checked} (e : Judges P text lent form j) where
+  module _ (h : 192 ≤ length before) where
     encoding : first (asciiRows P text (length before)) ≡ first (textRows P text ++ row 14 (anyOf (uncoded P) (labels (normalForm text))) 0 ∷ [])
     unfolding asciiRows
     encoding = passed-over 1 (ltb (length before) 192) 0 _ (le-ltb (length before) 192 h)
 
-    pub ascii-refused : {r : Checked} → r ≡ refusedCall (j .number) (j .place) → (j .number ≡ 0 → ⊥) → AsciiForms P text before before r
-    ascii-refused q n =
+    pub ascii-refused : {n p : ℕ} {r : Checked} → first (textRows P text) ≡ record { number = n; place = p } → (n ≡ 0 → ⊥) → r ≡ refusedCall n p
+        → AsciiForms P text before before r
+    ascii-refused e f q =
         answers-no _ text _ before q
-        (encoding ∙ refused-before (textRows P text) _ (λ z. n (number-is P text e ∙ z)) ∙ answer-is P text e) n
+        (encoding ∙ refused-before (textRows P text) _ (λ z. f (sym (ap (λ (a : Answer). a .number) e) ∙ z)) ∙ e) f
 
-    module _ (p : Passed P text form j) where
+    module _ (all : Clear (textRows P text)) where
       judged-on : first (asciiRows P text (length before)) ≡ first (row 14 (anyOf (uncoded P) (labels (normalForm text))) 0 ∷ [])
-      judged-on = encoding ∙ clear-before (textRows P text) _ (p .clear)
+      judged-on = encoding ∙ clear-before (textRows P text) _ all
 
       pub ascii-uncoded : {r : Checked} → r ≡ refusedCall 14 0 → anyOf (uncoded P) (labels (normalForm text)) ≡ true → AsciiForms P text before before r
       ascii-uncoded z q = answers-no _ text _ before z (judged-on ∙ hit 14 (anyOf (uncoded P) (labels (normalForm text))) 0 [] q) (λ z. omega arith)
 
-      pub ascii-accepted : {n : ℕ} {after : List ℕ} → anyOf (uncoded P) (labels (normalForm text)) ≡ false → n ≡ length (asciiForm P (normalForm text))
-          → after ≡ written (asciiForm P (normalForm text)) before
-          → AsciiForms P text before after (record { number = 0; place = 0; class = j .class; length = n })
-      ascii-accepted q s w =
-          answers-yes _ text _ before (judged-on ∙ clear (row 14 (anyOf (uncoded P) (labels (normalForm text))) 0 ∷ []) (q, tt)) (p .class) s w
+      pub ascii-accepted : {k : Class} {n : ℕ} {after : List ℕ} → anyOf (uncoded P) (labels (normalForm text)) ≡ false
+          → k ≡ classOf (labels (normalForm text)) → n ≡ length (asciiForm P (normalForm text)) → after ≡ written (asciiForm P (normalForm text)) before
+          → AsciiForms P text before after (record { number = 0; place = 0; class = k; length = n })
+      ascii-accepted q k s w =
+          answers-yes _ text _ before (judged-on ∙ clear (row 14 (anyOf (uncoded P) (labels (normalForm text))) 0 ∷ []) (q, tt)) k s w

@@ -24,12 +24,7 @@ use Rattle.rules.specs.Editions.{today}
 use Rattle.names.specs.Calls.{uncoded}
 use Rattle.names.proofs.Answering.{cleared}
 use Rattle.names.proofs.Enough.{each-label, middle-size}
-
--- ---- one of two tests
-
-either : {A : Type 0} (a b : Bool) → a || b ≡ true → (a ≡ true → A) → (b ≡ true → A) → A
-either true b e f g = f refl
-either false b e f g = g e
+use Rattle.names.proofs.OfLabel.{either}
 
 -- ---- where Japanese characters stand
 

@@ -117,7 +117,7 @@ module _ (P : Permits) (text : List ℕ) {lent form : List ℕ} {j : Checked} (e
   module _ (before : List ℕ) (h : 192 ≤ length before) where
     pub stopped : {a : Checked} → a ≡ refusedCall 14 0 → r .coded ≡ false → AsciiForms P text before before a
     stopped q n =
-        ascii-uncoded P text before h e (passed P text e z) q (not-false (anyOf (uncoded P) (labels (normalForm text))) (sym (tries .coded) ∙ n))
+        ascii-uncoded P text before h (passed P text e z .clear) q (not-false (anyOf (uncoded P) (labels (normalForm text))) (sym (tries .coded) ∙ n))
 
     pub finished : {after : List ℕ} {n : ℕ} → r .coded ≡ true → n ≡ length (take (r .at - 0) (drop 0 last))
         → after ≡ take n (take (r .at - 0) (drop 0 last)) ++ drop n before
@@ -127,5 +127,6 @@ module _ (P : Permits) (text : List ℕ) {lent form : List ℕ} {j : Checked} (e
         let k : n ≡ length (asciiForm P (normalForm text)) = m ∙ ap length (piece y) in
         let all : take (length (asciiForm P (normalForm text))) (asciiForm P (normalForm text)) ≡ asciiForm P (normalForm text) =
         take-all (length (asciiForm P (normalForm text))) (asciiForm P (normalForm text)) (omega arith) in
-        ascii-accepted P text before h e (passed P text e z) (not-true (anyOf (uncoded P) (labels (normalForm text))) (sym (tries .coded) ∙ y)) (place-is y)
+        let p = passed P text e z in
+        ascii-accepted P text before h (p .clear) (not-true (anyOf (uncoded P) (labels (normalForm text))) (sym (tries .coded) ∙ y)) (p .class) (place-is y)
         (w ∙ rw (piece y, k, all))

@@ -6,32 +6,33 @@ use mathlib.Core.Bool.{Bool, true, false, not, _&&_}
 use mathlib.Core.List.{List, [], _∷_, _++_, map, append-assoc, append-nil}
 use mathlib.Core.Logic.{⊎-elim}
 use Prim.Native.Nat.{ℕ, zero, suc, _+_, _-_, _*_, _≤_, _<_}
-use native.Mathlib.Numerals.{add-one}
+use native.Mathlib.Numerals.{add-one, add-two}
 use native.Mathlib.Omega.{arith}
 use lib.Dec.{eqb, leb, ltb}
-use lib.ListN.{length, take, drop, getD, set, length-append, length-drop, drop-of-length-le}
-use lib.Seq.{paste, paste-suc, take-all, take-at, drop-at, drop-drop, set-split}
+use lib.ListN.{length, take, drop, getD, set, length-append, length-drop, drop-of-length-le, take-append-drop}
+use lib.Seq.{paste, paste-suc, take-all, take-at, drop-at, drop-drop, set-split, sets-eq}
 use borrow.Author.Tests.{eq-eqb, ne-eqb, le-ltb, leb-true, ltb-true, eqb-true, not-true, not-false}
 use Rattle.lists.specs.Tests.{pick, allOf, anyOf, firstOf}
 use Rattle.lists.specs.Front.{written}
+use Rattle.lists.proofs.Fronts.{untouched}
 use Rattle.lists.proofs.Laws.{both, clash, lt-or-le}
 use Rattle.punycode.specs.Punycode.{ace, encodable}
 use Rattle.punycode.specs.Calls.{coderNumber, coderWrites, Encodes}
 use Rattle.punycode.specs.declared.Coded.{Coded}
 use Rattle.rules.specs.Labels.{period, labels, join}
 use Rattle.rules.specs.Permits.{Permits}
-use Rattle.rules.specs.Rules.{isJapanese}
+use Rattle.rules.specs.Rules.{isJapanese, jp}
 use Rattle.rules.specs.Editions.{todayWith}
 use Rattle.rules.proofs.Cuts.{Labelled, none, cut, held, labelled, ended, last-from, first-from}
 use Rattle.names.specs.Calls.{asciiLabel, asciiForm, uncoded}
-use Rattle.names.specs.Steps.{octet, wide, writable, Writable, Puts, Tries}
+use Rattle.names.specs.Steps.{octet, wide, writable, Writable, Puts, Tries, TriesOne, dotJp}
 use Rattle.names.specs.declared.ascii.Put.{Put}
 use Rattle.names.proofs.OfLabel.{wide-is}
 
 -- ---- pieces
 
 -- one piece more
-next : {xs piece out₀ out₁ out₂ : List ℕ} {n r : ℕ} → Puts xs out₀ out₁ 0 n → Puts piece out₁ out₂ n r → Puts (xs ++ piece) out₀ out₂ 0 r
+pub next : {xs piece out₀ out₁ out₂ : List ℕ} {n r : ℕ} → Puts xs out₀ out₁ 0 n → Puts piece out₁ out₂ n r → Puts (xs ++ piece) out₀ out₂ 0 r
 next {xs} {piece} {out₀} {out₁} {out₂} {n} {r} w p =
     let k : ℕ = length piece in
     let c : length xs ≡ n = omega (arith, w .place) in
@@ -45,6 +46,11 @@ next {xs} {piece} {out₀} {out₁} {out₂} {n} {r} w p =
 
 put-one : (out : List ℕ) (n b : ℕ) → n < length out → Puts (b ∷ []) out (set out n b) n (n + 1)
 put-one out n b h = record { place = refl; buffer = rw add-one (set-split out n b h) }
+
+-- ".jp", octet by octet
+pub put-jp : (out : List ℕ) (n : ℕ) → n + 3 ≤ length out → Puts dotJp out (set (set (set out n 0x2E) (n + 1) 0x6A) (n + 2) 0x70) n (n + 3)
+unfolding jp
+put-jp out n h = record { place = refl; buffer = rw (add-one n, add-two n) (sets-eq dotJp out n h ∙ append-assoc (take n out) dotJp (drop (n + 3) out)) }
 
 -- a piece that has room leaves the buffer as long as it was
 puts-length : {xs out₀ out : List ℕ} {n : ℕ} → Puts xs out₀ out 0 n → n ≤ length out₀ → length out ≡ length out₀
@@ -93,8 +99,23 @@ module _ (l out last : List ℕ) (at : ℕ) (h : at + 63 ≤ length out) {k : Co
       ap (λ (x : Coded). x .number) (e .answer)
       ∙ coder-room l (length (take (length out - at) (drop at out))) (omega (arith, ap length part, length-drop at out))
 
-  pub coded-no : {after : List ℕ} → (k .number ≡ 0 → ⊥) → Tries (eqb (coderNumber l 63) 0) (ace l) out after at (record { coded = false; at = at })
-  coded-no n = record { coded = sym (ne-eqb (coderNumber l 63) 0 (λ z. n (number-is ∙ z))); put = λ p. clash p refl }
+  -- what the whole buffer then holds; the coder's part reaches to its end
+  abbrev left-there : List ℕ
+  left-there = take at out ++ (last ++ drop (length out - at) (drop at out))
+
+  none-after : drop (length out - at) (drop at out) ≡ []
+  none-after = drop-of-length-le (drop at out) {i = length out - at} (omega (arith, length-drop at out))
+
+  pub coded-no : (k .number ≡ 0 → ⊥) → TriesOne (eqb (coderNumber l 63) 0) (ace l) out left-there at (record { coded = false; at = at })
+  unfolding coderWrites
+  coded-no n =
+      let none-written : coderWrites l (length (take (length out - at) (drop at out))) ≡ [] =
+      rw (ne-eqb _ 0 (λ z. n (ap (λ (x : Coded). x .number) (e .answer) ∙ z))) in
+      let left : last ≡ drop at out = e .buffer ∙ rw none-written (untouched _) ∙ part in
+      record {
+        tries = record { coded = sym (ne-eqb (coderNumber l 63) 0 (λ z. n (number-is ∙ z))); put = λ p. clash p refl };
+        kept = λ p. rw (none-after, append-nil last, left) (take-append-drop at out);
+      }
 
   module _ (z : k .number ≡ 0) where
     writes-is : coderWrites l (length (take (length out - at) (drop at out))) ≡ ace l
@@ -107,11 +128,9 @@ module _ (l out last : List ℕ) (at : ℕ) (h : at + 63 ≤ length out) {k : Co
     pub coded-fits : at + k .length ≤ length out
     coded-fits = omega (arith, length-is, coder-short l (sym number-is ∙ z))
 
-    pub coded-yes : Tries (eqb (coderNumber l 63) 0) (ace l) out (take at out ++ (last ++ drop (length out - at) (drop at out))) at
-        (record { coded = true; at = at + k .length })
+    pub coded-yes : Tries (eqb (coderNumber l 63) 0) (ace l) out left-there at (record { coded = true; at = at + k .length })
     unfolding written
     coded-yes =
-        let none-after : drop (length out - at) (drop at out) ≡ [] = drop-of-length-le (drop at out) {i = length out - at} (omega (arith, length-drop at out)) in
         let left : last ≡ ace l ++ drop (at + length (ace l)) out = e .buffer ∙ rw (writes-is, part, drop-drop (length (ace l)) at out) in
         record {
           coded = sym (eq-eqb (coderNumber l 63) 0 (sym number-is ∙ z));
@@ -120,15 +139,23 @@ module _ (l out last : List ℕ) (at : ℕ) (h : at + 63 ≤ length out) {k : Co
 
 -- ---- a label
 
+-- where the coder takes it, there is no refusal to speak of
+pub took : {takes : Bool} {piece before after : List ℕ} {at : ℕ} {r : Put} → r .coded ≡ true → Tries takes piece before after at r
+    → TriesOne takes piece before after at r
+took y t = record { tries = t; kept = λ n. clash y n }
+
 not-not : (b : Bool) → b ≡ not (not b)
 not-not true = refl
 not-not false = refl
 
 module _ (P : Permits) (l : List ℕ) {j : Bool} (e : j ≡ isJapanese P l) where
-  pub label-coded : {before after : List ℕ} {at : ℕ} {r : Put} → j ≡ true → Tries (eqb (coderNumber l 63) 0) (ace l) before after at r
-      → Tries (not (uncoded P l)) (asciiLabel P l) before after at r
+  pub label-coded : {before after : List ℕ} {at : ℕ} {r : Put} → j ≡ true → TriesOne (eqb (coderNumber l 63) 0) (ace l) before after at r
+      → TriesOne (not (uncoded P l)) (asciiLabel P l) before after at r
   unfolding uncoded asciiLabel
-  label-coded p t = record { coded = t .coded ∙ rw (← e, p) (not-not (eqb (coderNumber l 63) 0)); put = λ q. rw (← e, p) (t .put q) }
+  label-coded p t = record {
+    tries = record { coded = t .tries .coded ∙ rw (← e, p) (not-not (eqb (coderNumber l 63) 0)); put = λ q. rw (← e, p) (t .tries .put q) };
+    kept = t .kept;
+  }
 
   module _ (p : j ≡ false) where
     pub label-plain : {before after : List ℕ} {at r : ℕ} → Puts l before after at r
@@ -146,7 +173,7 @@ pub wide-writable : (table l : List ℕ) {b : Bool} → b ≡ anyOf wide l → w
 wide-writable table l e w = wide-is table l e (λ p. plain-fits (todayWith table) l refl p w .0)
 
 -- at most 63 octets
-label-size : (P : Permits) (l : List ℕ) → writable P l ≡ true → uncoded P l ≡ false → length (asciiLabel P l) ≤ 63
+pub label-size : (P : Permits) (l : List ℕ) → writable P l ≡ true → uncoded P l ≡ false → length (asciiLabel P l) ≤ 63
 unfolding uncoded asciiLabel
 label-size P l w u = go (isJapanese P l) refl u
   where

@@ -6,6 +6,7 @@ pub mod Judging
 pub mod Answering
 pub mod Joining
 pub mod Enough
+pub mod Usual
 pub mod Lending
 pub mod Unique
 pub mod Coded

@@ -9,18 +9,25 @@ use lib.Dec.{eqb, ltb}
 use lib.ListN.{length, getD}
 use borrow.Author.Tests.{eq-eqb, ne-eqb, eqb-true, eqb-false, lt-ltb, le-ltb, ltb-true}
 use Rattle.lists.specs.Tests.{pick, allOf, anyOf, elem}
-use Rattle.lists.specs.Rows.{Answer}
+use Rattle.lists.specs.Rows.{Row, row, Answer, first}
 use Rattle.lists.proofs.Laws.{or-left, or-right, in-range, all-none}
+use Rattle.lists.proofs.Tables.{clear, clear-before, hit, passed-over, refusing, accepted-clear}
 use Rattle.characters.specs.Characters.{asciiSet, hyphen, japaneseWith}
 use Rattle.characters.proofs.Bounds.{with-bounds, with-below}
 use Rattle.rules.specs.Labels.{period}
 use Rattle.rules.specs.Permits.{Permits, labelChar}
-use Rattle.rules.specs.Rules.{unfit, middleDot, ordinary, isJapanese, beginsWithHyphen, endsWithHyphen, hyphenEdge, short, long, bareDot}
+use Rattle.rules.specs.Rules.{unfit, middleDot, ordinary, isJapanese, beginsWithHyphen, endsWithHyphen, hyphenEdge, short, long, bareDot, labelRows}
 use Rattle.rules.specs.Editions.{todayWith}
 use Rattle.rules.proofs.Views.{or-false, and-false, all-but}
 use Rattle.rules.proofs.Sound.{ascii-range}
-use Rattle.rules.proofs.Steps.{edge-at, label-7, label-8, label-9, label-10, label-0}
-use Rattle.names.specs.Steps.{labelNumber, octet, wide}
+use Rattle.rules.proofs.Steps.{edge-at, refused-before}
+use Rattle.names.specs.Steps.{labelNumber, edgeRows, edgeNumber, octet, wide}
+
+-- ---- one of two tests
+
+pub either : {A : Type 0} (a b : Bool) → a || b ≡ true → (a ≡ true → A) → (b ≡ true → A) → A
+either true b e f g = f refl
+either false b e f g = g e
 
 -- ---- one character
 
@@ -158,34 +165,57 @@ long-japanese n j e = rw e
 pub long-ascii : (n : ℕ) (j : Bool) → j ≡ false → ltb 63 n ≡ ltb (pick j 15 63) n
 long-ascii n j e = rw e
 
--- ---- 7 to 10
+-- ---- 7 to 9
 
 number-of : {a b : Answer} → a ≡ b → b .number ≡ a .number
 number-of e = sym (ap (λ (a : Answer). a .number) e)
 
-module _ (P : Permits) (l : List ℕ) {e : Bool} (e7 : e ≡ hyphenEdge l) where
-  pub is-7 : e ≡ true → 7 ≡ labelNumber P l
-  is-7 p = number-of (label-7 P 3 l 0 (sym e7 ∙ p))
+module _ (l : List ℕ) {e : Bool} (e7 : e ≡ hyphenEdge l) where
+  pub edge-7 : e ≡ true → 7 ≡ edgeNumber (anyOf wide l) l
+  unfolding edgeRows
+  edge-7 p = number-of (hit 7 _ 0 _ (sym e7 ∙ p))
 
-  module _ (p : e ≡ false) {j s : Bool} (ej : j ≡ isJapanese P l) (e8 : s ≡ (not j && ltb (length l) 3)) where
-    short-is : short P 3 l ≡ s
-    unfolding short
+  module _ (p : e ≡ false) {j s : Bool} (ej : j ≡ anyOf wide l) (e8 : s ≡ (not j && ltb (length l) 3)) where
+    short-is : (not (anyOf wide l) && ltb (length l) 3) ≡ s
     short-is = rw (← ej, e8)
 
-    pub is-8 : s ≡ true → 8 ≡ labelNumber P l
-    is-8 q = number-of (label-8 P 3 l 0 (sym e7 ∙ p) (short-is ∙ q))
+    pub edge-8 : s ≡ true → 8 ≡ edgeNumber (anyOf wide l) l
+    unfolding edgeRows
+    edge-8 q = number-of (passed-over 7 _ 0 _ (sym e7 ∙ p) ∙ hit 8 _ 0 _ (short-is ∙ q))
 
     module _ (q : s ≡ false) {g : Bool} (e9 : g ≡ ltb (pick j 15 63) (length l)) where
-      long-is : long P l ≡ g
-      unfolding long
+      long-is : ltb (pick (anyOf wide l) 15 63) (length l) ≡ g
       long-is = rw (← ej, e9)
 
-      pub is-9 : g ≡ true → 9 ≡ labelNumber P l
-      is-9 r = number-of (label-9 P 3 l 0 (sym e7 ∙ p) (short-is ∙ q) (long-is ∙ r))
+      pub edge-9 : g ≡ true → 9 ≡ edgeNumber (anyOf wide l) l
+      unfolding edgeRows
+      edge-9 r = number-of (passed-over 7 _ 0 _ (sym e7 ∙ p) ∙ passed-over 8 _ 0 _ (short-is ∙ q) ∙ hit 9 _ 0 _ (long-is ∙ r))
 
-      module _ (r : g ≡ false) {b : Bool} (e10 : b ≡ bareDot P l) where
-        pub is-10 : b ≡ true → 10 ≡ labelNumber P l
-        is-10 t = number-of (label-10 P 3 l 0 (sym e7 ∙ p) (short-is ∙ q) (long-is ∙ r) (sym e10 ∙ t))
+      pub edge-0 : g ≡ false → 0 ≡ edgeNumber (anyOf wide l) l
+      unfolding edgeRows
+      edge-0 r = number-of (clear (edgeRows (anyOf wide l) l) (sym e7 ∙ p, (short-is ∙ q, (long-is ∙ r, tt))))
 
-        pub is-0 : b ≡ false → 0 ≡ labelNumber P l
-        is-0 t = number-of (label-0 P 3 l 0 (sym e7 ∙ p) (short-is ∙ q) (long-is ∙ r) (sym e10 ∙ t))
+-- ---- 7 to 10
+
+pub edge-of : (table l : List ℕ) {n : ℕ} → n ≡ edgeNumber (anyOf wide l) l → allOf (labelChar (todayWith table)) l ≡ true
+    → n ≡ edgeNumber (isJapanese (todayWith table) l) l
+edge-of table l e a = e ∙ ap (λ (j : Bool). edgeNumber j l) (wide-fit table l refl a)
+
+module _ (P : Permits) (l : List ℕ) {n : ℕ} (e : n ≡ edgeNumber (isJapanese P l) l) where
+  abbrev dotRow : List Row
+  dotRow = row 10 (bareDot P l) 0 ∷ []
+
+  pub edge-stands : (n ≡ 0 → ⊥) → n ≡ labelNumber P l
+  unfolding labelRows edgeRows short long
+  edge-stands h = e ∙ number-of (refused-before (edgeRows (isJapanese P l) l) dotRow (λ z. h (e ∙ z)))
+
+  module _ (z : n ≡ 0) {b : Bool} (e10 : b ≡ bareDot P l) where
+    past-edge : first (labelRows P 3 l 0) ≡ first dotRow
+    unfolding labelRows edgeRows short long refusing allOf
+    past-edge = clear-before (edgeRows (isJapanese P l) l) dotRow (accepted-clear (edgeRows (isJapanese P l) l) refl (sym e ∙ z))
+
+    pub is-10 : b ≡ true → 10 ≡ labelNumber P l
+    is-10 t = number-of (past-edge ∙ hit 10 _ 0 _ (sym e10 ∙ t))
+
+    pub is-0 : b ≡ false → 0 ≡ labelNumber P l
+    is-0 t = number-of (past-edge ∙ clear dotRow (sym e10 ∙ t, tt))

@@ -1,16 +1,17 @@
 -- What the functions below the calls answer: parts of the rules, each for the labels or the table that it is handed.
-use mathlib.Core.Bool.{Bool, true, _&&_, _||_}
+use mathlib.Core.Bool.{Bool, true, false, not, _&&_, _||_}
 use mathlib.Core.List.{List, [], _∷_, _++_}
 use mathlib.Core.Path.{_≡_}
 use Prim.Native.Nat.{ℕ, _+_, _-_, _*_, _≤_}
 use lib.Dec.{leb, ltb}
 use lib.ListN.{length, take, drop}
-use Rattle.lists.specs.Tests.{allOf}
+use Rattle.lists.specs.Tests.{pick, within, allOf, same}
 use Rattle.lists.specs.Front.{written}
-use Rattle.lists.specs.Rows.{first}
+use Rattle.lists.specs.Rows.{Row, row, first}
+use Rattle.characters.specs.Characters.{asciiSet, kanaOrKanji}
 use Rattle.rules.specs.Labels.{labels}
 use Rattle.rules.specs.Permits.{Permits}
-use Rattle.rules.specs.Rules.{isJapanese, labelRows, nameRows, verdict, rules}
+use Rattle.rules.specs.Rules.{isJapanese, hyphenEdge, labelRows, jp, nameRows, verdict, rules}
 use Rattle.rules.specs.declared.Class.the-variants.{None}
 use Rattle.rules.specs.declared.Verdict.{Verdict}
 use Rattle.names.specs.Calls.{shown}
@@ -20,6 +21,18 @@ use Rattle.names.specs.declared.ascii.Put.{Put}
 -- the first of 7 to 10 that applies to a leftmost label, or 0
 abbrev pub labelNumber : Permits → List ℕ → ℕ
 labelNumber P l = first (labelRows P 3 l 0) .number
+
+-- 7 to 9, from whether the label is Japanese
+unfoldable pub edgeRows : Bool → List ℕ → List Row
+edgeRows japanese l =
+    row 7 (hyphenEdge l) 0 ∷
+    row 8 (not japanese && ltb (length l) 3) 0 ∷
+    row 9 (ltb (pick japanese 15 63) (length l)) 0 ∷
+    []
+
+-- the first of them that applies, or 0
+abbrev pub edgeNumber : Bool → List ℕ → ℕ
+edgeNumber japanese l = first (edgeRows japanese l) .number
 
 -- the rules 5 to 12, of the labels of a form
 abbrev pub byLabels : Permits → List (List ℕ) → Verdict
@@ -75,3 +88,26 @@ pub record Puts (piece before after : List ℕ) (at r : ℕ) : Type 0 where
 pub record Tries (takes : Bool) (piece before after : List ℕ) (at : ℕ) (r : Put) : Type 0 where
   pub coded : r .coded ≡ takes
   pub put : r .coded ≡ true → Puts piece before after at (r .at)
+
+-- the same of one label: where the coder refuses it, all is as it was
+pub record TriesOne (takes : Bool) (piece before after : List ℕ) (at : ℕ) (r : Put) : Type 0 where
+  pub tries : Tries takes piece before after at r
+  pub kept : r .coded ≡ false → after ≡ before
+
+-- ---- the usual name: a plain label and ".jp"
+
+-- of the ASCII set, kana or a kanji: what the normal form leaves as it is, and what may stand in a label
+unfoldable pub plain : List ℕ → ℕ → Bool
+plain table c = asciiSet c || kanaOrKanji table c
+
+-- one to which ".jp" can be put
+pub record PlainLabel (table label : List ℕ) : Type 0 where
+  pub fit : allOf (plain table) label ≡ true
+  pub some : 1 ≤ length label
+  pub few : length label ≤ 253
+
+abbrev pub dotJp : List ℕ
+dotJp = 0x2E ∷ jp
+
+unfoldable pub endsInJp : List ℕ → Bool
+endsInJp text = within 4 256 (length text) && same (drop (length text - 3) text) dotJp

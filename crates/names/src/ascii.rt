@@ -6,11 +6,16 @@ use crate::NO_ROOM;
 use crate::OVER_63;
 use crate::checks::refused;
 use crate::judges::judge_into;
+use crate::labels::all_plain;
 use crate::labels::any_wide;
+use crate::labels::edge_and_length;
+use crate::labels::ends_in_jp;
 use crate::labels::label_end;
 use crate::tables::table;
+use rules::Class;
 ghost use mathlib.Core.Path.{_≡_};
 ghost use mathlib.Core.Bool.{true, not};
+ghost use mathlib.Core.List.{_++_};
 ghost use Prim.Native.Nat.{_+_, _≤_};
 ghost use lib.Dec.{eqb};
 ghost use lib.ListN.{length};
@@ -20,7 +25,7 @@ ghost use Rattle.punycode.specs.Punycode.{ace};
 ghost use Rattle.punycode.specs.Calls.{coderNumber};
 ghost use Rattle.rules.specs.Labels.{labels};
 ghost use Rattle.names.specs.Calls.{asciiLabel, asciiForm, uncoded, AsciiForms};
-ghost use Rattle.names.specs.Steps.{octet, writable, Writable, Puts, Tries};
+ghost use Rattle.names.specs.Steps.{octet, writable, Writable, Puts, Tries, TriesOne, PlainLabel, dotJp};
 
 // Whether the coder took what it was handed, and the place past what was put.
 pub struct Put {
@@ -44,7 +49,7 @@ fn put_plain(label: &[u32], out: &mut [u8], at: usize) -> usize
 // Puts the encoding of a Japanese label from `at` on, where the coder takes the label.
 fn put_coded(label: &[u32], out: &mut [u8], at: usize) -> Put
     requires { ⌜ at + 63 ≤ length (now out) ⌝ }
-    ensures { λ r. ⌜ Tries (eqb (coderNumber (now (label .entry)) 63) 0) (ace (now (label .entry))) (now (out .entry)) (now (out .exit)) at r ⌝ }
+    ensures { λ r. ⌜ TriesOne (eqb (coderNumber (now (label .entry)) 63) 0) (ace (now (label .entry))) (now (out .entry)) (now (out .exit)) at r ⌝ }
 {
     let coded = punycode::encode(label, &mut out[at..]);
     let number = coded.number;
@@ -60,7 +65,7 @@ fn put_coded(label: &[u32], out: &mut [u8], at: usize) -> Put
 // Puts the ASCII form of a label from `at` on, where the coder takes the label.
 fn put_label(kanji: &[u32], label: &[u32], out: &mut [u8], at: usize) -> Put
     requires { ⌜ (writable (todayWith (now kanji)) (now label) ≡ true) × (at + 63 ≤ length (now out)) ⌝ }
-    ensures { λ r. ⌜ Tries (not (uncoded (todayWith (now (kanji .entry))) (now (label .entry)))) (asciiLabel (todayWith (now (kanji .entry))) (now (label .entry))) (now (out .entry)) (now (out .exit)) at r ⌝ }
+    ensures { λ r. ⌜ TriesOne (not (uncoded (todayWith (now (kanji .entry))) (now (label .entry)))) (asciiLabel (todayWith (now (kanji .entry))) (now (label .entry))) (now (out .entry)) (now (out .exit)) at r ⌝ }
 {
     if any_wide(label) {
         return put_coded(label, out, at);
@@ -94,12 +99,11 @@ fn put_labels(kanji: &[u32], form: &[u32], out: &mut [u8]) -> Put
     }
 }
 
-pub fn to_ascii_with(kanji: &[u32], text: &[u32], out: &mut [u8]) -> Checked
+// The ASCII form of any text: its normal form is judged, put into octets and copied.
+fn by_form(kanji: &[u32], text: &[u32], out: &mut [u8]) -> Checked
+    requires { ⌜ 192 ≤ length (now out) ⌝ }
     ensures { λ r. ⌜ AsciiForms (todayWith (now (kanji .entry))) (now (text .entry)) (now (out .entry)) (now (out .exit)) r ⌝ }
 {
-    if out.len() < 192 {
-        return refused(NO_ROOM, 0);
-    }
     let mut form = [0u32; 256];
     let judged = judge_into(kanji, text, &mut form);
     if judged.number != ACCEPTED {
@@ -122,6 +126,48 @@ pub fn to_ascii_with(kanji: &[u32], text: &[u32], out: &mut [u8]) -> Checked
         class,
         length,
     }
+}
+
+// The ASCII form of a plain label and ".jp": that is its own normal form, only 7 to 9 and 14 can apply to it, and what is put stays.
+fn under_jp(kanji: &[u32], label: &[u32], out: &mut [u8]) -> Checked
+    requires { ⌜ PlainLabel (now kanji) (now label) × (192 ≤ length (now out)) ⌝ }
+    ensures { λ r. ⌜ AsciiForms (todayWith (now (kanji .entry))) (now (label .entry) ++ dotJp) (now (out .entry)) (now (out .exit)) r ⌝ }
+{
+    let number = edge_and_length(label);
+    if number != ACCEPTED {
+        return refused(number, 0);
+    }
+    let put = put_label(kanji, label, out, 0);
+    if !put.coded {
+        return refused(OVER_63, 0);
+    }
+    let at = put.at;
+    out[at] = 0x2E;
+    out[at + 1] = 0x6A;
+    out[at + 2] = 0x70;
+    Checked {
+        number: ACCEPTED,
+        place: 0,
+        class: Class::General,
+        length: at + 3,
+    }
+}
+
+// The usual name is a plain label and ".jp".
+pub fn to_ascii_with(kanji: &[u32], text: &[u32], out: &mut [u8]) -> Checked
+    ensures { λ r. ⌜ AsciiForms (todayWith (now (kanji .entry))) (now (text .entry)) (now (out .entry)) (now (out .exit)) r ⌝ }
+{
+    if out.len() < 192 {
+        return refused(NO_ROOM, 0);
+    }
+    if !ends_in_jp(text) {
+        return by_form(kanji, text, out);
+    }
+    let n = text.len() - 3;
+    if !all_plain(kanji, &text[0..n]) {
+        return by_form(kanji, text, out);
+    }
+    under_jp(kanji, &text[0..n], out)
 }
 
 // The same by the kanji of this edition.

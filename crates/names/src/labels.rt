@@ -14,7 +14,7 @@ ghost use Rattle.rules.specs.Labels.{period};
 ghost use Rattle.rules.specs.Permits.{labelChar};
 ghost use Rattle.rules.specs.Rules.{unfit, ordinary, hyphenEdge, bareDot, jp};
 ghost use Rattle.rules.specs.Editions.{todayWith};
-ghost use Rattle.names.specs.Steps.{labelNumber, wide};
+ghost use Rattle.names.specs.Steps.{labelNumber, edgeNumber, wide, plain, endsInJp};
 
 pub const PERIOD: u32 = 0x2E;
 
@@ -156,10 +156,9 @@ fn is_long(n: usize, japanese: bool) -> bool
     63 < n
 }
 
-// The first of 7 to 10 that applies to a leftmost label, or 0.
-pub(crate) fn left_rule(kanji: &[u32], label: &[u32]) -> u8
-    requires { ⌜ allOf (labelChar (todayWith (now kanji))) (now label) ≡ true ⌝ }
-    ensures { λ r. ⌜ r ≡ labelNumber (todayWith (now (kanji .entry))) (now (label .entry)) ⌝ }
+// The first of 7 to 9 that applies to a leftmost label, or 0.
+pub(crate) fn edge_and_length(label: &[u32]) -> u8
+    ensures { λ r. ⌜ r ≡ edgeNumber (anyOf wide (now (label .entry))) (now (label .entry)) ⌝ }
 {
     if has_edge(label) {
         return HYPHEN_EDGE;
@@ -171,6 +170,18 @@ pub(crate) fn left_rule(kanji: &[u32], label: &[u32]) -> u8
     }
     if is_long(n, japanese) {
         return TOO_LONG;
+    }
+    ACCEPTED
+}
+
+// The first of 7 to 10 that applies to a leftmost label, or 0.
+pub(crate) fn left_rule(kanji: &[u32], label: &[u32]) -> u8
+    requires { ⌜ allOf (labelChar (todayWith (now kanji))) (now label) ≡ true ⌝ }
+    ensures { λ r. ⌜ r ≡ labelNumber (todayWith (now (kanji .entry))) (now (label .entry)) ⌝ }
+{
+    let number = edge_and_length(label);
+    if number != ACCEPTED {
+        return number;
     }
     if has_bare_dot(kanji, label) {
         return BARE_DOT;
@@ -184,4 +195,49 @@ pub fn is_jp(label: &[u32]) -> bool
     ensures { λ r. ⌜ r ≡ same (now (label .entry)) jp ⌝ }
 {
     lists::same(label, &JP)
+}
+
+// Is the text one of 4 to 256 code points that ends in ".jp"?
+pub(crate) fn ends_in_jp(text: &[u32]) -> bool
+    ensures { λ r. ⌜ r ≡ endsInJp (now (text .entry)) ⌝ }
+{
+    let n = text.len();
+    if n < 4 {
+        return false;
+    }
+    if 256 < n {
+        return false;
+    }
+    let m = n - 3;
+    if text[m] != PERIOD {
+        return false;
+    }
+    if text[m + 1] != 0x6A {
+        return false;
+    }
+    text[m + 2] == 0x70
+}
+
+// Of the ASCII set, kana or a kanji? The ASCII set stands below 3041, and nothing of the others does.
+fn is_plain(kanji: &[u32], c: u32) -> bool
+    ensures { λ r. ⌜ r ≡ plain (now (kanji .entry)) c ⌝ }
+{
+    if c < 0x3041 {
+        return characters::is_ascii(c);
+    }
+    characters::is_kana_or_kanji(kanji, c)
+}
+
+// Is every character plain? Then the label is its own normal form, and each may stand there.
+pub(crate) fn all_plain(kanji: &[u32], label: &[u32]) -> bool
+    ensures { λ r. ⌜ r ≡ allOf (plain (now (kanji .entry))) (now (label .entry)) ⌝ }
+{
+    let mut i = 0;
+    while i < label.len() {
+        if !is_plain(kanji, label[i]) {
+            return false;
+        }
+        i += 1;
+    }
+    true
 }

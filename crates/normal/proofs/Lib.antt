@@ -1,5 +1,6 @@
 pub mod Pending
 pub mod Plain
 pub mod Laws
+pub mod Unchanged
 pub mod Answers
 pub mod Unique

@@ -1,7 +1,8 @@
 -- `put_coded` meets its contract, by what the coder states of the part of the buffer that it is lent.
 -- Assumes nothing.
+use mathlib.Core.Path.{refl}
 use native.Mathlib.Omega.{arith}
-use Rattle.names.proofs.Joining.{coded-no, coded-fits, coded-yes}
+use Rattle.names.proofs.Joining.{coded-no, coded-fits, coded-yes, took}
 use borrow.Author.Needs.{needs}
 use Rattle.names.proofs.ascii.put_coded.Statement.{statement}
 use Rattle.names.proofs.ascii.put_coded.Tie as tie
@@ -34,7 +35,7 @@ same-length-2 : tie.Need-same-length-2
 same-length-2 c = search needs
 
 returns-2 : tie.Need-returns-2
-returns-2 c = coded-yes _ _ _ _ (c .before .before .before .before .before .before .before .before .pre) (c .before .before .before .before .encode .ensures) (c .before .if1 .left)
+returns-2 c = took refl (coded-yes _ _ _ _ (c .before .before .before .before .before .before .before .before .pre) (c .before .before .before .before .encode .ensures) (c .before .if1 .left))
 
 pub put-coded-spec : {M : Type 1} → statement M
 put-coded-spec =

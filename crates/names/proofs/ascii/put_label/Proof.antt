@@ -1,7 +1,8 @@
 -- `put_label` meets its contract: a Japanese label is coded, any other is put as it is.
 -- Assumes nothing.
+use mathlib.Core.Path.{refl}
 use native.Mathlib.Omega.{arith}
-use Rattle.names.proofs.Joining.{wide-writable, label-coded, label-plain, plain-fits}
+use Rattle.names.proofs.Joining.{wide-writable, label-coded, label-plain, plain-fits, took}
 use borrow.Author.Needs.{needs}
 use Rattle.names.proofs.ascii.put_label.Statement.{statement}
 use Rattle.names.proofs.ascii.put_label.Tie as tie
@@ -25,7 +26,7 @@ same-length-2 : tie.Need-same-length-2
 same-length-2 c = search needs
 
 returns-2 : tie.Need-returns-2
-returns-2 c = label-plain _ _ (wide-writable _ _ (c .before .before .before .before .before .any-wide .ensures) (c .before .before .before .before .before .before .before .before .before .pre .0)) (c .before .before .before .before .if1 .left) (c .before .before .put-plain .ensures)
+returns-2 c = took refl (label-plain _ _ (wide-writable _ _ (c .before .before .before .before .before .any-wide .ensures) (c .before .before .before .before .before .before .before .before .before .pre .0)) (c .before .before .before .before .if1 .left) (c .before .before .put-plain .ensures))
 
 pub put-label-spec : {M : Type 1} → statement M
 put-label-spec =

@@ -1,10 +1,10 @@
--- `to_ascii_with` meets its contract: 1, what the judge says, then 14; what is put is copied last.
+-- `to_ascii_with` meets its contract: 1, then by its form, or as a plain label and ".jp" where it is one.
 -- Assumes nothing.
-use mathlib.Core.Path.{refl}
+use mathlib.Core.Path.{sym, _∙_}
 use native.Mathlib.Omega.{arith}
-use borrow.Author.Tests.{not-true, not-false}
-use Rattle.names.proofs.Answering.{passed, ascii-no-room, ascii-refused}
-use Rattle.names.proofs.Enough.{ready, put-size, piece-length, stopped, finished}
+use borrow.Author.Tests.{not-false}
+use Rattle.names.proofs.Answering.{ascii-no-room}
+use Rattle.names.proofs.Usual.{ending-sizes, plain-label, as-whole}
 use borrow.Author.Needs.{needs}
 use Rattle.names.proofs.ascii.to_ascii_with.Statement.{statement}
 use Rattle.names.proofs.ascii.to_ascii_with.Tie as tie
@@ -15,69 +15,59 @@ refused-requires c κs = search needs
 returns : tie.Need-returns
 returns c = ascii-no-room _ _ _ (c .refused .ensures) (c .before .if1 .taken)
 
-slice-aggregate-judge-into : tie.Need-slice-aggregate-judge-into
-slice-aggregate-judge-into c = search needs
+ends-in-jp-requires : tie.Need-ends-in-jp-requires
+ends-in-jp-requires c κs = search needs
 
-judge-into-requires : tie.Need-judge-into-requires
-judge-into-requires c κs = search needs
-
-refused-requires-2 : tie.Need-refused-requires-2
-refused-requires-2 c κs = search needs
-
-returns-2 : tie.Need-returns-2
-returns-2 c = ascii-refused _ _ _ (c .before .before .before .before .before .before .if1 .left) (c .before .before .before .before .judge-into .ensures) (c .refused2 .ensures) (c .before .if2 .taken)
-
-slice-aggregate-whole : tie.Need-slice-aggregate-whole
-slice-aggregate-whole c = search needs
-
-sub-put-labels : tie.Need-sub-put-labels
-sub-put-labels c = search needs
-
-part-put-labels-start : tie.Need-part-put-labels-start
-part-put-labels-start c = search needs
-
-part-put-labels-end : tie.Need-part-put-labels-end
-part-put-labels-end c = let p = passed _ _ (c .before .before .before .before .judge-into .ensures) (c .before .if2 .left) in omega (arith, p .few, c .before .before .before .before .judge-into .kept .1 .1 .0)
-
-slice-aggregate-put-labels : tie.Need-slice-aggregate-put-labels
-slice-aggregate-put-labels c = search needs
-
-put-labels-requires : tie.Need-put-labels-requires
-put-labels-requires c κs = ready _ _ (c .before .before .before .before .before .before .judge-into .ensures) (c .before .before .before .if2 .left)
-
-refused-requires-3 : tie.Need-refused-requires-3
-refused-requires-3 c κs = search needs
-
-returns-3 : tie.Need-returns-3
-returns-3 c = stopped _ _ (c .before .before .before .before .before .before .before .before .before .before .before .judge-into .ensures) (c .before .before .before .before .before .before .before .before .if2 .left) (c .before .before .before .before .put-labels .ensures) _ (c .before .before .before .before .before .before .before .before .before .before .before .before .before .if1 .left) (c .refused3 .ensures) (not-true _ (c .before .if3 .taken))
-
-slice-aggregate-octets : tie.Need-slice-aggregate-octets
-slice-aggregate-octets c = search needs
-
-sub-copy : tie.Need-sub-copy
-sub-copy c = search needs
-
-part-copy-start : tie.Need-part-copy-start
-part-copy-start c = search needs
-
-part-copy-end : tie.Need-part-copy-end
-part-copy-end c = let h = put-size _ _ (c .before .before .before .before .before .before .before .before .before .before .before .judge-into .ensures) (c .before .before .before .before .before .before .before .before .if2 .left) (c .before .before .before .before .put-labels .ensures) (not-false _ (c .before .if3 .left)) in omega arith
-
-copy-requires : tie.Need-copy-requires
-copy-requires c κs =
-    let y = not-false _ (c .before .before .before .if3 .left) in
-    let e = c .before .before .before .before .before .before .before .before .before .before .before .before .before .judge-into .ensures in
-    let z = c .before .before .before .before .before .before .before .before .before .before .if2 .left in
-    let t = c .before .before .before .before .before .before .put-labels .ensures in
-    let h = put-size _ _ e z t y in
-    let l = piece-length _ _ e z t y in
-    omega (arith, c .before .before .before .before .before .before .put-labels .kept .1 .1 .0, c .before .before .before .before .before .before .before .before .before .before .before .before .before .before .before .if1 .left)
+by-form-requires : tie.Need-by-form-requires
+by-form-requires c κs = search needs
 
 same-length : tie.Need-same-length
 same-length c = search needs
 
+returns-2 : tie.Need-returns-2
+returns-2 c = search needs
+
+sub-n : tie.Need-sub-n
+sub-n c = let s = ending-sizes _ (sym (c .before .ends-in-jp .ensures) ∙ not-false _ (c .if2 .left)) in omega arith
+
+sub-all-plain : tie.Need-sub-all-plain
+sub-all-plain c = search needs
+
+part-all-plain-start : tie.Need-part-all-plain-start
+part-all-plain-start c = search needs
+
+part-all-plain-end : tie.Need-part-all-plain-end
+part-all-plain-end c = search needs
+
+all-plain-requires : tie.Need-all-plain-requires
+all-plain-requires c κs = search needs
+
+by-form-requires-2 : tie.Need-by-form-requires-2
+by-form-requires-2 c κs = search needs
+
+same-length-2 : tie.Need-same-length-2
+same-length-2 c = search needs
+
+returns-3 : tie.Need-returns-3
+returns-3 c = search needs
+
+sub-under-jp : tie.Need-sub-under-jp
+sub-under-jp c = search needs
+
+part-under-jp-start : tie.Need-part-under-jp-start
+part-under-jp-start c = search needs
+
+part-under-jp-end : tie.Need-part-under-jp-end
+part-under-jp-end c = search needs
+
+under-jp-requires : tie.Need-under-jp-requires
+under-jp-requires c κs = (plain-label _ (sym (c .before .before .before .before .before .before .ends-in-jp .ensures) ∙ not-false _ (c .before .before .before .before .before .if2 .left)) _ (sym (c .before .before .before .all-plain .ensures) ∙ not-false _ (c .before .before .if3 .left)), c .before .before .before .before .before .before .before .if1 .left)
+
+same-length-3 : tie.Need-same-length-3
+same-length-3 c = search needs
+
 returns-4 : tie.Need-returns-4
-returns-4 c = finished _ _ (c .before .before .before .before .before .before .before .before .before .before .before .before .before .before .before .before .judge-into .ensures) (c .before .before .before .before .before .before .before .before .before .before .before .before .before .if2 .left) (c .before .before .before .before .before .before .before .before .before .put-labels .ensures) _ (c .before .before .before .before .before .before .before .before .before .before .before .before .before .before .before .before .before .before .if1 .left) (not-false _ (c .before .before .before .before .before .before .if3 .left)) refl (c .before .before .copy .ensures .1)
+returns-4 c = as-whole _ (sym (c .before .before .before .before .before .before .before .before .before .ends-in-jp .ensures) ∙ not-false _ (c .before .before .before .before .before .before .before .before .if2 .left)) _ (c .before .before .under-jp .ensures)
 
 pub to-ascii-with-spec : {M : Type 1} → statement M
 to-ascii-with-spec =
@@ -85,22 +75,21 @@ to-ascii-with-spec =
     (tie.spec
     refused-requires
     returns
-    slice-aggregate-judge-into
-    judge-into-requires
-    refused-requires-2
-    returns-2
-    slice-aggregate-whole
-    sub-put-labels
-    part-put-labels-start
-    part-put-labels-end
-    slice-aggregate-put-labels
-    put-labels-requires
-    refused-requires-3
-    returns-3
-    slice-aggregate-octets
-    sub-copy
-    part-copy-start
-    part-copy-end
-    copy-requires
+    ends-in-jp-requires
+    by-form-requires
     same-length
+    returns-2
+    sub-n
+    sub-all-plain
+    part-all-plain-start
+    part-all-plain-end
+    all-plain-requires
+    by-form-requires-2
+    same-length-2
+    returns-3
+    sub-under-jp
+    part-under-jp-start
+    part-under-jp-end
+    under-jp-requires
+    same-length-3
     returns-4)

@@ -1,0 +1,262 @@
+-- The usual name, a plain label and ".jp": a plain character is its own replacement, no mark, no period and no middle dot, so the text
+-- is its own normal form, its labels are the two, and only 7 to 9 and 14 can apply.
+-- Assumes nothing.
+use mathlib.Core.Path.{_≡_, refl, sym, ap, _∙_}
+use mathlib.Core.Bool.{Bool, true, false, not, _&&_, _||_, or-false, and-true}
+use mathlib.Core.List.{List, [], _∷_, _++_}
+use Prim.Native.Nat.{ℕ, suc, _+_, _-_, _≤_, _<_}
+use native.Mathlib.Numerals.{add-one, add-two}
+use native.Mathlib.Omega.{arith}
+use lib.Dec.{eqb}
+use lib.ListN.{length, take, drop, getD, set, length-append, take-append-drop, drop-of-length-le}
+use lib.Seq.{drop-cons}
+use borrow.Author.Tests.{eq-eqb, ne-eqb, not-true, not-false}
+use Rattle.lists.specs.Tests.{within, allOf, anyOf, same}
+use Rattle.lists.specs.Front.{written}
+use Rattle.lists.proofs.Laws.{both, or-left, or-right, clash, inside, outside, in-range, all-append, all-weaker, all-none, same-refl, same-is}
+use Rattle.lists.proofs.Tables.{Clear}
+use Rattle.characters.specs.Characters.{alnum, hyphen, asciiSet, hiragana, katakana, kanjiWith, kanaOrKanji}
+use Rattle.characters.specs.Replace.{ranges, rangeIn, isHalf, replaceIn, replace}
+use Rattle.characters.proofs.Classes.{stays, ascii-stays}
+use Rattle.characters.proofs.Stretches.{by-stretch, no-sign}
+use Rattle.normal.specs.Normal.{normalForm}
+use Rattle.normal.proofs.Unchanged.{unchanged, unchanged-by, unchanged-form}
+use Rattle.rules.specs.Labels.{period, onto, labels, join}
+use Rattle.rules.specs.Permits.{Permits, labelChar, isEmpty}
+use Rattle.rules.specs.Rules.{unfit, middleDot, isJapanese, bareDot, jp, textRows, classOf, verdict, rules, accepted}
+use Rattle.rules.specs.Editions.{todayWith}
+use Rattle.rules.specs.declared.Class.the-variants.{General}
+use Rattle.rules.specs.declared.Verdict.{Verdict}
+use Rattle.rules.proofs.Sound.{ascii-range}
+use Rattle.rules.proofs.Cuts.{labels-cut}
+use Rattle.rules.proofs.Steps.{text-on, name-left, name-0}
+use Rattle.names.specs.Calls.{asciiLabel, asciiForm, uncoded, AsciiForms}
+use Rattle.names.specs.Steps.{edgeNumber, byLabels, refusal, refusedCall, wide, writable, TriesOne, plain, PlainLabel, dotJp, endsInJp}
+use Rattle.names.specs.declared.Checked.{Checked}
+use Rattle.names.specs.declared.ascii.Put.{Put}
+use Rattle.names.proofs.Answering.{cleared, ascii-refused, ascii-uncoded, ascii-accepted}
+use Rattle.names.proofs.Enough.{accepted-writable}
+use Rattle.names.proofs.Joining.{next, put-jp, label-size}
+use Rattle.names.proofs.OfLabel.{either, wide-fit, edge-of, edge-stands, is-0}
+use Rattle.names.proofs.OfName.{two-filled}
+
+-- ---- a plain character
+
+module _ (table : List ℕ) (c : ℕ) where
+  -- below 3041 there is no kana and no kanji, and from there on nothing of the ASCII set
+  pub plain-below : {a : Bool} → c < 0x3041 → a ≡ asciiSet c → a ≡ plain table c
+  unfolding plain
+  plain-below h e = e ∙ go (kanaOrKanji table c) refl
+    where
+      go : (k : Bool) → kanaOrKanji table c ≡ k → asciiSet c ≡ asciiSet c || kanaOrKanji table c
+      go true p = absurd (by-stretch table c p (λ r. omega arith) (λ r. omega arith) (λ r. omega arith))
+      go false p = rw p (sym (or-false (asciiSet c)))
+
+  pub plain-above : {k : Bool} → 0x3041 ≤ c → k ≡ kanaOrKanji table c → k ≡ plain table c
+  unfolding plain
+  plain-above h e = e ∙ go (asciiSet c) refl
+    where
+      go : (a : Bool) → asciiSet c ≡ a → kanaOrKanji table c ≡ asciiSet c || kanaOrKanji table c
+      go true p = absurd (let r = ascii-range c p in omega arith)
+      go false p = rw p
+
+  -- the period, the marks and the middle dot are not plain
+  differs : (v : ℕ) → plain table v ≡ false → plain table c ≡ true → c ≡ v → ⊥
+  differs v n e z = clash e (ap (plain table) z ∙ n)
+
+  module _ (e : plain table c ≡ true) where
+    plain-period : period c ≡ false
+    unfolding period plain asciiSet alnum hyphen kanaOrKanji hiragana katakana kanjiWith within
+    plain-period = ne-eqb c 0x2E (differs 0x2E refl e)
+
+    plain-dot : middleDot c ≡ false
+    unfolding middleDot plain asciiSet alnum hyphen kanaOrKanji hiragana katakana kanjiWith within
+    plain-dot = ne-eqb c 0x30FB (differs 0x30FB refl e)
+
+    kept : c ≡ replace c
+    unfolding plain
+    kept =
+        either (asciiSet c) (kanaOrKanji table c) e (ascii-stays c)
+        (λ k. by-stretch table c k (λ r. stays c (omega arith) (omega arith)) (λ r. stays c (omega arith) (omega arith)) (λ r. stays c (omega arith) (omega arith)))
+
+    plain-unchanged : unchanged c ≡ true
+    unfolding plain asciiSet alnum hyphen kanaOrKanji hiragana katakana kanjiWith within
+    plain-unchanged = unchanged-by c kept (differs 0x309B refl e) (differs 0x309C refl e)
+
+    plain-fit : labelChar (todayWith table) c ≡ true
+    unfolding plain labelChar todayWith
+    plain-fit =
+        either (asciiSet c) (kanaOrKanji table c) e (λ p. or-right (todayWith table .japanese c) (asciiSet c) p)
+        (λ p. or-left (todayWith table .japanese c) (asciiSet c) (sym (no-sign table c refl p)))
+
+-- ---- ".jp" at the end of a text
+
+module _ (text : List ℕ) where
+  pub too-few : length text < 4 → false ≡ endsInJp text
+  unfolding endsInJp
+  too-few h = rw (outside 4 256 (length text) (λ p q. omega arith))
+
+  pub too-many : 256 < length text → false ≡ endsInJp text
+  unfolding endsInJp
+  too-many h = rw (outside 4 256 (length text) (λ p q. omega arith))
+
+  module _ (h : 4 ≤ length text) (k : length text ≤ 256) where
+    last-three : drop (length text - 3) text ≡ getD text (length text - 3) 0 ∷ getD text (length text - 3 + 1) 0 ∷ getD text (length text - 3 + 2) 0 ∷ []
+    last-three =
+        let n = length text - 3 in
+        rw (add-one n, add-two n) (
+        drop-cons text n 0 (omega arith)
+        ∙ ap (λ (l : List ℕ). getD text n 0 ∷ l) (drop-cons text (suc n) 0 (omega arith)
+        ∙ ap (λ (l : List ℕ). getD text (suc n) 0 ∷ l) (drop-cons text (suc (suc n)) 0 (omega arith)
+        ∙ ap (λ (l : List ℕ). getD text (suc (suc n)) 0 ∷ l) (drop-of-length-le text {i = suc (suc (suc n))} (omega arith)))))
+
+    told : endsInJp text
+        ≡ eqb (getD text (length text - 3) 0) 0x2E && (eqb (getD text (length text - 3 + 1) 0) 0x6A && (eqb (getD text (length text - 3 + 2) 0) 0x70 && true))
+    unfolding endsInJp same jp
+    told = rw (inside 4 256 (length text) h k, last-three)
+
+    pub no-dot : (getD text (length text - 3) 0 ≡ 0x2E → ⊥) → false ≡ endsInJp text
+    no-dot f = sym (told ∙ rw (ne-eqb _ 0x2E f))
+
+    module _ (p : getD text (length text - 3) 0 ≡ 0x2E) where
+      pub no-j : (getD text (length text - 3 + 1) 0 ≡ 0x6A → ⊥) → false ≡ endsInJp text
+      no-j f = sym (told ∙ rw (eq-eqb _ 0x2E p, ne-eqb _ 0x6A f))
+
+      pub by-p : getD text (length text - 3 + 1) 0 ≡ 0x6A → eqb (getD text (length text - 3 + 2) 0) 0x70 ≡ endsInJp text
+      by-p q = sym (told ∙ rw (eq-eqb _ 0x2E p, eq-eqb _ 0x6A q) (and-true _))
+
+  module _ (e : endsInJp text ≡ true) where
+    ending : (within 4 256 (length text) ≡ true) × (same (drop (length text - 3) text) dotJp ≡ true)
+    unfolding endsInJp
+    ending = both (within 4 256 (length text)) (same (drop (length text - 3) text) dotJp) e
+
+    pub ending-sizes : (4 ≤ length text) × (length text ≤ 256)
+    ending-sizes = in-range 4 256 (length text) (ending .0)
+
+    abbrev before-jp : List ℕ
+    before-jp = take (length text - 3 - 0) (drop 0 text)
+
+    whole : before-jp ++ dotJp ≡ text
+    whole =
+        let z : length text - 3 - 0 ≡ length text - 3 = omega arith in
+        rw (z, ← same-is (drop (length text - 3) text) dotJp (ending .1)) (take-append-drop (length text - 3) text)
+
+    pub plain-label : (table : List ℕ) → allOf (plain table) before-jp ≡ true → PlainLabel table before-jp
+    unfolding jp
+    plain-label table a =
+        let s = ending-sizes in
+        let n : length before-jp + 3 ≡ length text = sym (length-append before-jp dotJp) ∙ ap length whole in
+        record { fit = a; some = omega arith; few = omega arith }
+
+    -- what is said of the two is said of the text
+    pub as-whole : (P : Permits) {before after : List ℕ} {r : Checked} → AsciiForms P (before-jp ++ dotJp) before after r → AsciiForms P text before after r
+    as-whole P a = rw whole at a
+
+-- ---- the text
+
+module _ (table label : List ℕ) (w : PlainLabel table label) where
+  abbrev P : Permits
+  P = todayWith table
+
+  abbrev text : List ℕ
+  text = label ++ dotJp
+
+  jp-plain : allOf (plain table) jp ≡ true
+  unfolding allOf plain asciiSet alnum within jp
+  jp-plain = refl
+
+  -- what holds of a plain character and of the period holds of each
+  throughout : (f : ℕ → Bool) → ((c : ℕ) → plain table c ≡ true → f c ≡ true) → f 0x2E ≡ true → allOf f text ≡ true
+  unfolding allOf
+  throughout f imp d =
+      all-append f label dotJp ∙ rw (all-weaker (plain table) f imp label (w .fit), d) (all-weaker (plain table) f imp jp jp-plain)
+
+  form-is : normalForm text ≡ text
+  unfolding unchanged replace replaceIn isHalf ranges rangeIn within
+  form-is = unchanged-form text (throughout unchanged (plain-unchanged table) refl)
+
+  labels-are : labels (normalForm text) ≡ label ∷ jp ∷ []
+  unfolding labels onto period jp
+  labels-are = ap labels form-is ∙ labels-cut label jp (all-none (plain table) period (plain-period table) label (w .fit))
+
+  label-fit : allOf (labelChar P) label ≡ true
+  label-fit = all-weaker (plain table) (labelChar P) (plain-fit table) label (w .fit)
+
+  all-fit : anyOf (unfit P) (normalForm text) ≡ false
+  unfolding unfit period
+  all-fit =
+      ap (anyOf (unfit P)) form-is
+      ∙ all-none (λ (c : ℕ). period c || labelChar P c) (unfit P) (λ c e. ap not e) text
+      (throughout (λ (c : ℕ). period c || labelChar P c) (λ c e. or-right (period c) (labelChar P c) (plain-fit table c e)) refl)
+
+  ruled : rules P text ≡ byLabels P (label ∷ jp ∷ [])
+  unfolding jp
+  ruled =
+      let n = length-append label dotJp in
+      text-on P text (λ z. omega (arith, w .some)) (omega (arith, w .few)) all-fit ∙ ap (byLabels P) labels-are
+
+  filled : anyOf isEmpty (label ∷ jp ∷ []) ≡ false
+  unfolding jp
+  filled = two-filled label jp (λ z. omega (arith, w .some)) (λ z. omega arith)
+
+  no-dots : bareDot P label ≡ false
+  unfolding bareDot
+  no-dots = rw (all-none (plain table) middleDot (plain-dot table) label (w .fit))
+
+  jp-ascii : isJapanese P jp ≡ false
+  unfolding anyOf wide jp
+  jp-ascii = sym (wide-fit table jp refl (all-weaker (plain table) (labelChar P) (plain-fit table) jp jp-plain))
+
+  -- ---- what is said of it
+
+  module _ {n : ℕ} (e : n ≡ edgeNumber (anyOf wide label) label) where
+    refused-by : (n ≡ 0 → ⊥) → rules P text ≡ refusal n 0
+    refused-by h = ruled ∙ name-left P (label ∷ jp ∷ []) refl filled (edge-stands P label (edge-of table label e label-fit) h) h
+
+    pub usual-refused : {before : List ℕ} {r : Checked} → 192 ≤ length before → (n ≡ 0 → ⊥) → r ≡ refusedCall n 0 → AsciiForms P text before before r
+    unfolding rules verdict
+    usual-refused {before} room h q = ascii-refused P text before room (ap (λ (v : Verdict). record { number = v .number; place = v .place }) (refused-by h)) h q
+
+    module _ (z : n ≡ 0) where
+      accepted-by : rules P text ≡ accepted General
+      unfolding classOf
+      accepted-by =
+          ruled ∙ name-0 P (label ∷ jp ∷ []) refl filled (is-0 P label (edge-of table label e label-fit) z refl no-dots) refl (same-refl jp) refl
+
+      clears : Clear (textRows P text)
+      unfolding rules verdict
+      clears = cleared P text (ap (λ (v : Verdict). v .number) accepted-by)
+
+      pub label-writable : writable P label ≡ true
+      unfolding allOf
+      label-writable = both (writable P label) _ (ap (allOf (writable P)) (sym labels-are) ∙ accepted-writable table text clears .fit) .0
+
+      -- what is put for the label, by which the buffer has become `after`
+      module _ {before after : List ℕ} {r : Put} (t : TriesOne (not (uncoded P label)) (asciiLabel P label) before after 0 r) where
+        uncoded-is : anyOf (uncoded P) (labels (normalForm text)) ≡ uncoded P label
+        unfolding anyOf uncoded
+        uncoded-is = rw (labels-are, jp-ascii) (or-false _)
+
+        pub usual-uncoded : {a : Checked} → 192 ≤ length before → r .coded ≡ false → a ≡ refusedCall 14 0 → AsciiForms P text before after a
+        usual-uncoded room y q =
+            rw (t .kept y) (ascii-uncoded P text before room clears q (uncoded-is ∙ not-false (uncoded P label) (sym (t .tries .coded) ∙ y)))
+
+        module _ (y : r .coded ≡ true) where
+          taken : uncoded P label ≡ false
+          taken = not-true (uncoded P label) (sym (t .tries .coded) ∙ y)
+
+          pub at-most : r .at ≤ 63
+          at-most = omega (arith, t .tries .put y .place, label-size P label label-writable taken)
+
+          form-ascii : asciiForm P (normalForm text) ≡ asciiLabel P label ++ dotJp
+          unfolding asciiForm asciiLabel join
+          form-ascii = rw (labels-are, jp-ascii)
+
+          pub usual-accepted : 192 ≤ length before → r .at + 3 ≤ length after
+              → AsciiForms P text before (set (set (set after (r .at) 0x2E) (r .at + 1) 0x6A) (r .at + 2) 0x70)
+              (record { number = 0; place = 0; class = General; length = r .at + 3 })
+          unfolding classOf written
+          usual-accepted room l =
+              let puts = next (t .tries .put y) (put-jp after (r .at) l) in
+              let size : r .at + 3 ≡ length (asciiLabel P label ++ dotJp) = omega (arith, puts .place) in
+              ascii-accepted P text before room clears (uncoded-is ∙ taken) (rw labels-are) (size ∙ ap length (sym form-ascii)) (puts .buffer ∙ rw (form-ascii, size))
