@@ -3,11 +3,11 @@
 use mathlib.Core.Path.{_≡_, refl, sym, ap, _∙_}
 use mathlib.Core.Bool.{Bool, true, false, _||_}
 use mathlib.Core.List.{List}
-use Prim.Native.Nat.{ℕ, _≤_}
+use Prim.Native.Nat.{ℕ, _-_, _/_, _%_, _≤_}
+use lib.ListN.{getD}
 use Rattle.lists.specs.Tests.{within, elem}
-use Rattle.lists.specs.Halving.{halving}
 use Rattle.lists.proofs.Laws.{both, in-range}
-use Rattle.characters.specs.Characters.{hiragana, katakana, signs, japaneseBy, kanjiWith, japaneseWith, kanaOrKanji}
+use Rattle.characters.specs.Characters.{hiragana, katakana, signs, japaneseBy, bitSet, kanjiWith, japaneseWith, kanaOrKanji}
 
 module _ (table : List ℕ) (c : ℕ) where
   -- what holds in each of the three stretches
@@ -19,7 +19,7 @@ module _ (table : List ℕ) (c : ℕ) where
       go : (h : Bool) → within 0x3041 0x3093 c ≡ h → (t : Bool) → within 0x30A1 0x30F6 c ≡ t → h || (t || kanjiWith table c) ≡ true → A
       go true p t q e = f (in-range 0x3041 0x3093 c p)
       go false p true q e = g (in-range 0x30A1 0x30F6 c q)
-      go false p false q e = k (in-range 0x4E00 0x9FA0 c (both (within 0x4E00 0x9FA0 c) (halving c table) e .0))
+      go false p false q e = k (in-range 0x4E00 0x9FA0 c (both (within 0x4E00 0x9FA0 c) (bitSet (getD table ((c - 0x4E00) / 32) 0) ((c - 0x4E00) % 32)) e .0))
 
   with-signs : kanaOrKanji table c || elem c signs ≡ japaneseWith table c
   unfolding kanaOrKanji japaneseWith japaneseBy
