@@ -5,8 +5,8 @@ use mathlib.Core.Bool.{Bool, true, false}
 use mathlib.Core.List.{List, [], _∷_, _++_, append-nil}
 use Prim.Native.Nat.{ℕ, suc, _+_, _-_, _≤_, _<_}
 use native.Mathlib.Omega.{arith}
-use lib.Dec.{leb}
-use lib.ListN.{length, take, drop, getD, length-append}
+use lib.Dec.{leb, ltb}
+use lib.ListN.{length, take, drop, set, getD, length-append}
 use lib.Seq.{append-snoc, split-at, take-at, length-take-le}
 use borrow.Author.Tests.{eqb-true, le-ltb}
 use Rattle.lists.specs.Tests.{pick, anyOf, firstOf}
@@ -69,6 +69,44 @@ module _ (answer : List ℕ → List ℕ) (bad : List ℕ) where
   unfolding usedFrom pushedAll
   used-plain l [] h s room = omega arith
   used-plain l (b ∷ p) h s room = let k = split b p h in rw (k .0) (omega (arith, used-plain (pushed l b) p (k .1) s room))
+
+-- ---- two lines that are answered alike, whatever comes after them
+
+module _ (answer : List ℕ → List ℕ) (bad : List ℕ) where
+  abbrev pub Alike : Line → Line → Type 0
+  Alike l m = (p : List ℕ) → closed answer bad (pushedAll l p) ≡ closed answer bad (pushedAll m p)
+
+  pub wrote-alike : (l m : Line) → Alike l m → (s : List ℕ) → wrote answer bad l s ≡ wrote answer bad m s
+  unfolding wrote pushedAll
+  wrote-alike l m h [] = refl
+  wrote-alike l m h (b ∷ s) =
+      let r : List ℕ = wrote answer bad fresh s in
+      by (λ (x : Bool). pick x (closed answer bad l ++ r) (wrote answer bad (pushed l b) s) ≡ pick x (closed answer bad m ++ r) (wrote answer bad (pushed m b) s))
+      (lf b) (λ e. ap (λ (c : List ℕ). c ++ r) (h [])) (λ e. wrote-alike (pushed l b) (pushed m b) (λ p. h (b ∷ p)) s)
+
+  from-alike : (l m : Line) → Alike l m → (s : List ℕ) (room : ℕ) → usedFrom answer bad l s room ≡ usedFrom answer bad m s room
+  unfolding usedFrom pushedAll
+  from-alike l m h [] room = refl
+  from-alike l m h (b ∷ s) room =
+      rw (h []) (ap (pick (lf b) _) (ap suc (from-alike (pushed l b) (pushed m b) (λ p. h (b ∷ p)) s room)))
+
+  pub used-alike : (l m : Line) → Alike l m → (s : List ℕ) (room : ℕ) → used answer bad l s room ≡ used answer bad m s room
+  unfolding used
+  used-alike l m h s room = rw (from-alike l m h s room)
+
+pushed-some : (l : Line) (b : ℕ) → 0 < pushed l b .n
+unfolding pushed
+pushed-some l b =
+    by (λ (x : Bool). 0 < pick {A = Line} x (record { held = set (l .held) (l .n) b; n = l .n + 1 }) (record { held = l .held; n = 1025 }) .n) (ltb (l .n) 1024)
+    (λ e. omega arith) (λ e. omega arith)
+
+-- a piece after which nothing is carried has ended a line, so it leaves nothing of any line before it
+pub after-alike : (l m : Line) (s : List ℕ) → 0 < m .n + length s → after m s ≡ fresh → after l s ≡ fresh
+unfolding after fresh
+after-alike l m [] h e = absurd (omega (arith, ap (λ (x : Line). x .n) e))
+after-alike l m (b ∷ s) h g =
+    by (λ (x : Bool). pick x (after fresh s) (after (pushed m b) s) ≡ fresh → pick x (after fresh s) (after (pushed l b) s) ≡ fresh) (lf b)
+    (λ e k. k) (λ e k. after-alike (pushed l b) (pushed m b) s (omega (arith, pushed-some m b)) k) g
 
 -- ---- a piece in which no line ends
 

@@ -1,4 +1,5 @@
--- The ways in which `feed` and `finish` return, on plain lists: the first line is carried, the others are scanned, the rest is carried on.
+-- The ways in which `feed` and `finish` return, on plain lists: a first line that was carried is closed, the others are scanned, the rest is
+-- carried on; with no byte carried all lines are scanned, since what the array held before is never asked.
 -- Assumes nothing.
 use mathlib.Core.Path.{_≡_, refl, sym, ap, _∙_}
 use mathlib.Core.Bool.{Bool}
@@ -8,17 +9,31 @@ use native.Mathlib.Omega.{arith}
 use lib.Dec.{leb}
 use lib.ListN.{length, take, drop, length-append, length-drop, take-append-drop}
 use lib.Seq.{take-add, drop-drop, take-length, length-take-le}
-use borrow.Author.Tests.{le-leb, lt-leb, eq-eqb, ne-eqb}
+use borrow.Author.Tests.{le-leb, lt-leb, leb-true, eq-eqb, ne-eqb}
 use Rattle.lists.specs.Tests.{pick, firstOf}
+use Rattle.lists.proofs.Fronts.{untouched}
 use Rattle.batch.specs.declared.answer.Wrote.{Wrote}
+use Rattle.batch.specs.declared.stream.Fed.{Fed}
 use Rattle.batch.specs.declared.stream.Line.{Line}
 use Rattle.batch.specs.declared.stream.Scanned.{Scanned}
 use Rattle.batch.specs.Stream.{lf, fresh, pushedAll, after, most, closed, wrote, ended, used}
-use Rattle.batch.specs.Feed.{Stands, Writes, Scans, Feeds, Finishes}
-use Rattle.batch.proofs.Whole.{by, after-append, wrote-append}
-use Rattle.batch.proofs.Cuts.{line-after, line-wrote, line-used, none-after, none-wrote, none-used}
+use Rattle.batch.specs.Feed.{Stands, Writes, Scans, Feeds, restOf, Finishes}
+use Rattle.batch.proofs.Whole.{by, holds-none, holds-fresh, after-append, wrote-append, closed-all}
+use Rattle.batch.proofs.Cuts.{Alike, wrote-alike, used-alike, after-alike, line-after, line-wrote, line-used, none-after, none-wrote, none-used}
 use Rattle.batch.proofs.Lent.{nothing, fits, then, lent, lent-same, tail-part}
 use Rattle.batch.proofs.Turns.{stands, used-open, used-shut}
+
+-- ---- rest
+
+module _ (s : List ℕ) (at o : ℕ) {room : ℕ} {line : Line} where
+  pub rest-full : room < most → line ≡ fresh → record { used = at; wrote = o; line = line } ≡ restOf s at o room
+  unfolding restOf
+  rest-full h e = rw (lt-leb _ _ h, e)
+
+  pub rest-on : most ≤ room → line ≡ fresh → {kept : Line} → kept ≡ pushedAll line (take (length s - at) (drop at s))
+      → record { used = length s; wrote = o; line = kept } ≡ restOf s at o room
+  unfolding restOf
+  rest-on h e k = rw (le-leb _ _ h, k, e, tail-part s at)
 
 module _ (answer : List ℕ → List ℕ) (bad : List ℕ) where
   -- ---- nothing is written
@@ -53,6 +68,51 @@ module _ (answer : List ℕ → List ℕ) (bad : List ℕ) where
         last = rw (tail-part out n) at (c′ .last);
       }
 
+  -- ---- the lines up to `at` are answered, in o bytes, and the rest is carried on
+
+  record Upto (l : Line) (s before after′ : List ℕ) (at o : ℕ) : Type 0 where
+    text : Stands (wrote answer bad l (take at s)) before after′ o
+    whole : after l (take at s) ≡ fresh
+    all : used answer bad l s (length before) ≡ pick (leb most (length before - o)) (length s) at
+    last : most ≤ length before - o → length (drop at s) ≤ firstOf lf (drop at s)
+
+  rests : {l : Line} {s before after′ : List ℕ} {at o : ℕ} → Upto l s before after′ at o → Feeds answer bad l s before after′ (restOf s at o (length before - o))
+  unfolding restOf
+  rests {l} {s} {before} {after′} {at} {o} u =
+      let rest : Fed = record { used = length s; wrote = o; line = pushedAll fresh (drop at s) } in
+      let full : Fed = record { used = at; wrote = o; line = fresh } in
+      by (λ (x : Bool). leb most (length before - o) ≡ x → Feeds answer bad l s before after′ (pick x rest full)) (leb most (length before - o))
+      (λ z e.
+      let q : length (drop at s) ≤ firstOf lf (drop at s) = u .last (leb-true _ _ e) in
+      let parts : s ≡ take at s ++ drop at s = sym (take-append-drop at s) in
+      let text : wrote answer bad l s ≡ wrote answer bad l (take at s) =
+      ap (wrote answer bad l) parts ∙ wrote-append answer bad l (take at s) (drop at s)
+      ∙ (rw (u .whole, none-wrote fresh (drop at s) q answer bad) (append-nil _)) in
+      record {
+        amount = sym (rw e at (u .all));
+        text = rw (take-length, text) (u .text);
+        next =
+            rw take-length
+            (sym (ap (after l) parts ∙ after-append l (take at s) (drop at s) ∙ (rw (u .whole) (none-after fresh (drop at s) q))));
+      })
+      (λ z e. record { amount = sym (rw e at (u .all)); text = u .text; next = sym (u .whole) })
+      refl
+
+  -- ---- no byte is carried: the lines of the piece are scanned
+
+  module _ (over : (l : List ℕ) → 1024 < length l → answer l ≡ bad) (l : Line) (long : length (l .held) ≡ 1024) (none : l .n ≡ 0) where
+    alike : Alike answer bad l fresh
+    alike p = closed-all answer bad over (holds-none l long none) p ∙ sym (closed-all answer bad over holds-fresh p)
+
+    straight : {s before after′ : List ℕ} {t : Scanned} → Scans answer bad s before after′ t → 0 < t .at → Upto l s before after′ (t .at) (t .length)
+    straight {s} {before} {after′} {t} c h =
+        record {
+          text = rw (wrote-alike answer bad l fresh alike (take (t .at) s)) (c .text);
+          whole = after-alike l fresh (take (t .at) s) (omega (arith, length-take-le (t .at) s (c .inside))) (c .whole);
+          all = used-alike answer bad l fresh alike s (length before) ∙ c .all;
+          last = c .last;
+        }
+
   -- ---- a line ends in the piece: up to it, n bytes are written; the lines after it are scanned
 
   module _ (l : Line) (s out₀ out₁ out′ : List ℕ) (n : ℕ) (t : Scanned) (room : most ≤ length out₀) (long : length out₁ ≡ length out₀)
@@ -67,6 +127,9 @@ module _ (answer : List ℕ → List ℕ) (bad : List ℕ) where
     cut-at : take (v + t .at) s ≡ take v s ++ take (t .at) r
     cut-at = take-add v (t .at) s
 
+    left : length out₀ - (n + t .length) ≡ length (drop n out₁) - t .length
+    left = omega (arith, length-drop n out₁)
+
     wrote-at : wrote answer bad l (take (v + t .at) s) ≡ closed answer bad (pushedAll l (take (firstOf lf s) s)) ++ wrote answer bad fresh (take (t .at) r)
     wrote-at = rw (cut-at, wrote-append answer bad l (take v s) (take (t .at) r), line-after l s h, line-wrote l s h answer bad)
 
@@ -80,36 +143,33 @@ module _ (answer : List ℕ → List ℕ) (bad : List ℕ) where
         used-open answer bad l s room ∙ line-used l s h answer bad (length out₀)
         ∙ ap (λ (x : ℕ). v + used answer bad fresh r x) z ∙ ap (λ (x : ℕ). v + x) (c .all)
 
-    full : {at o : ℕ} → at ≡ v + t .at → o ≡ n + t .length → length out₀ - o < most
-        → Feeds answer bad l s out₀ (take n out₁ ++ out′) (record { used = at; wrote = o; line = fresh })
-    full {at} {o} e f g =
-        let low : length (drop n out₁) - t .length < most = omega (arith, length-drop n out₁) in
+    first-then : Upto l s out₀ (take n out₁ ++ out′) (v + t .at) (n + t .length)
+    first-then =
         record {
-          amount = e ∙ sym (rw (lt-leb _ _ low) at used-at);
-          text = rw (e, f, wrote-at) (then w (c .text));
-          next = rw e (sym after-at);
-        }
-
-    done : {at o : ℕ} {rest : Line} → at ≡ v + t .at → o ≡ n + t .length → most ≤ length out₀ - o → rest ≡ pushedAll fresh (drop at s)
-        → Feeds answer bad l s out₀ (take n out₁ ++ out′) (record { used = length s; wrote = o; line = rest })
-    done {at} {o} {rest} e f g k =
-        let high : most ≤ length (drop n out₁) - t .length = omega (arith, length-drop n out₁) in
-        let tail : drop (t .at) r ≡ drop at s = drop-drop (t .at) v s ∙ ap (λ (m : ℕ). drop m s) (sym e) in
-        let q : length (drop at s) ≤ firstOf lf (drop at s) = rw tail at (c .last high) in
-        let parts : s ≡ take at s ++ drop at s = sym (take-append-drop at s) in
-        let at-is : take at s ≡ take (v + t .at) s = ap (λ (m : ℕ). take m s) e in
-        let text : wrote answer bad l s ≡ closed answer bad (pushedAll l (take (firstOf lf s) s)) ++ wrote answer bad fresh (take (t .at) r) =
-        ap (wrote answer bad l) parts ∙ wrote-append answer bad l (take at s) (drop at s)
-        ∙ (rw (at-is, after-at, wrote-at, none-wrote fresh (drop at s) q answer bad) (append-nil _)) in
-        record {
-          amount = sym (rw (le-leb _ _ high) at used-at ∙ omega (arith, length-drop v s));
-          text = rw (take-length, f, text) (then w (c .text));
-          next =
-              rw take-length
-              (k ∙ sym (ap (after l) parts ∙ after-append l (take at s) (drop at s) ∙ (rw (at-is, after-at) (none-after fresh (drop at s) q))));
+          text = rw wrote-at (then w (c .text));
+          whole = after-at;
+          all =
+              used-at
+              ∙ by (λ (x : Bool). v + pick x (length r) (t .at) ≡ pick x (length s) (v + t .at)) (leb most (length (drop n out₁) - t .length))
+              (λ e. omega (arith, length-drop v s)) (λ e. refl)
+              ∙ ap (λ (m : ℕ). pick (leb most m) (length s) (v + t .at)) (sym left);
+          last = λ g. rw (drop-drop (t .at) v s) at (c .last (omega (arith, left)));
         }
 
 -- ---- the same as the code has it: the parts as they are lent, and what came back of them
+
+module _ {answer : List ℕ → List ℕ} {bad : List ℕ} (l : Line) (s : List ℕ) {out₀ out₁ : List ℕ} {t : Scanned} (room : most ≤ length out₀)
+    (c : Scans answer bad s out₀ out₁ t) where
+  pub lines-none : {kept : Line} → t .at ≡ 0 → kept ≡ pushedAll l s → Feeds answer bad l s out₀ out₁ (record { used = length s; wrote = 0; line = kept })
+  unfolding wrote
+  lines-none {kept} e k =
+      let w : Stands [] out₀ out₁ (t .length) = rw e at (c .text) in
+      let q : length s ≤ firstOf lf s = rw e at (c .last (omega (arith, w .count))) in
+      rw (w .buffer ∙ untouched out₀) (no-line answer bad l kept s out₀ room refl (omega arith) k)
+
+  pub lines-rest : (over : (l : List ℕ) → 1024 < length l → answer l ≡ bad) → length (l .held) ≡ 1024 → l .n ≡ 0 → length out₁ ≡ length out₀
+      → {fed : Fed} → (t .at ≡ 0 → ⊥) → fed ≡ restOf s (t .at) (t .length) (length out₁ - t .length) → Feeds answer bad l s out₀ out₁ fed
+  lines-rest over g n same h e = rw (e, same) (rests answer bad (straight answer bad over l g n c (omega arith)))
 
 module _ {answer : List ℕ → List ℕ} {bad : List ℕ} (l : Line) (s : List ℕ) {first : Line} {out₀ out₁ last : List ℕ} {e : ℕ} {a : Wrote} {t : Scanned}
     (room : most ≤ length out₀) (long : length out₁ ≡ length out₀) (E : e ≡ 0 + firstOf lf s) (g : e < length s)
@@ -151,16 +211,10 @@ module _ {answer : List ℕ → List ℕ} {bad : List ℕ} (l : Line) (s : List 
   pub o-back : n + t .length ≤ length back-out
   o-back = omega (arith, o-fits, back-long)
 
-  pub feeds-full : {line : Line} → length back-out - (n + t .length) < most → line ≡ fresh
-      → Feeds answer bad l s out₀ back-out (record { used = e + 1 + t .at; wrote = n + t .length; line = line })
-  feeds-full {line} low f = rw f (full answer bad l s out₀ out₁ _ n t room long h w″ c′ (omega arith) refl (omega (arith, back-long)))
-
-  pub feeds-done : {line rest : Line} → most ≤ length back-out - (n + t .length) → line ≡ fresh
-      → rest ≡ pushedAll line (take (length s - (e + 1 + t .at)) (drop (e + 1 + t .at) s))
-      → Feeds answer bad l s out₀ back-out (record { used = length s; wrote = n + t .length; line = rest })
-  feeds-done {line} {rest} high f q =
-      done answer bad l s out₀ out₁ _ n t room long h w″ c′ {at = e + 1 + t .at} (omega arith) refl (omega (arith, back-long))
-      (rw (f, tail-part s (e + 1 + t .at)) at q)
+  pub feeds-rest : {fed : Fed} → fed ≡ restOf s (e + 1 + t .at) (n + t .length) (length back-out - (n + t .length)) → Feeds answer bad l s out₀ back-out fed
+  feeds-rest q =
+      let z : e + 1 + t .at ≡ suc (firstOf lf s) + t .at = omega arith in
+      rw (q, back-long, z) (rests answer bad (first-then answer bad l s out₀ out₁ _ n t room long h w″ c′))
 
 -- ---- the end of the input
 

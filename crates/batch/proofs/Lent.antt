@@ -4,7 +4,7 @@ use mathlib.Core.Path.{_≡_, refl, sym, ap, _∙_}
 use mathlib.Core.List.{List, [], _++_, append-assoc, append-nil}
 use Prim.Native.Nat.{ℕ, _+_, _-_, _≤_}
 use native.Mathlib.Omega.{arith}
-use lib.ListN.{length, take, drop, length-append, length-drop, drop-of-length-le}
+use lib.ListN.{length, take, drop, length-append, length-drop, drop-of-length-le, take-append-drop}
 use lib.Seq.{take-all, drop-drop}
 use Rattle.lists.specs.Front.{written}
 use Rattle.lists.proofs.Fronts.{untouched, front, rest}
@@ -43,6 +43,10 @@ tail-part s a = take-all (length s - a) (drop a s) (omega (arith, length-drop a 
 -- the part from 0 up to n
 pub head-part : (s : List ℕ) (n : ℕ) → take (n - 0) (drop 0 s) ≡ take n s
 head-part s n = let e : n - 0 ≡ n = omega arith in ap (λ (m : ℕ). take m s) e
+
+-- a call that leaves the part from o on as it was leaves the buffer as it was
+pub lent-back : (o : ℕ) (out : List ℕ) {last : List ℕ} → last ≡ take (length out - o) (drop o out) → take o out ++ (last ++ drop (length out - o) (drop o out)) ≡ out
+lent-back o out e = rw (e, take-append-drop (length out - o) (drop o out)) (take-append-drop o out)
 
 -- the part of a buffer from o on, lent to a call that leaves `last` there
 module _ (o : ℕ) (out last : List ℕ) (kept : length last ≡ length (take (length out - o) (drop o out))) where

@@ -1,6 +1,7 @@
--- What the loops keep, and what the answer to a carried line is, on plain lists: each turn takes one byte, or one line.
+-- What the loops keep, and what the answer to a carried line or to the next one is, on plain lists: each turn takes one byte, or one line.
 -- Assumes nothing.
 use mathlib.Core.Path.{_≡_, refl, ap, _∙_}
+use mathlib.Core.Bool.{true, false}
 use mathlib.Core.List.{List, _++_}
 use Prim.Native.Nat.{ℕ, suc, _+_, _-_, _≤_, _<_}
 use native.Mathlib.Numerals.{add-one}
@@ -9,13 +10,16 @@ use lib.ListN.{length, take, drop, set, getD, replicate, length-append, length-d
 use lib.Seq.{take-add, drop-drop, drop-cons, length-take-le}
 use borrow.Author.Tests.{lt-ltb, le-ltb, le-leb, lt-leb}
 use Rattle.lists.specs.Tests.{firstOf}
+use Rattle.lists.proofs.Laws.{clash}
+use Rattle.batch.specs.declared.answer.Next.{Next}
 use Rattle.batch.specs.declared.answer.Wrote.{Wrote}
 use Rattle.batch.specs.declared.stream.Line.{Line}
 use Rattle.batch.specs.Stream.{lf, fresh, pushed, pushedAll, after, most, closed, wrote, usedFrom, used}
 use Rattle.batch.specs.Feed.{Stands, Writes, Scans}
-use Rattle.batch.proofs.Whole.{after-append, wrote-append, closed-all}
+use Rattle.batch.specs.Next.{Answered, Quick, LineAt}
+use Rattle.batch.proofs.Whole.{after-append, wrote-append, holds-fresh, closed-all}
 use Rattle.batch.proofs.Cuts.{none-used, line-after, line-wrote, line-used}
-use Rattle.batch.proofs.Lent.{nothing, fits, then, head-part, tail-part, lent, lent-same, lent-fits}
+use Rattle.batch.proofs.Lent.{nothing, fits, then, head-part, lent, lent-back, lent-same, lent-fits}
 
 -- ---- carried
 
@@ -53,6 +57,22 @@ module _ (answer : List ℕ → List ℕ) (bad : List ℕ) (over : (l : List ℕ
   closes-over h w =
       let e : answer (replicate 1025 0) ≡ bad = over (replicate 1025 0) (omega (arith, length-replicate {A = ℕ} 1025 0)) in
       rw (lt-leb _ _ h) (rw e at w)
+
+-- ---- next
+
+module _ {answer : List ℕ → List ℕ} {s : List ℕ} {at : ℕ} {before after : List ℕ} where
+  pub next-quick : {r : Next} → r .done ≡ true → Quick answer s at before after r → LineAt answer s at before after r
+  next-quick e q = record { said = q; none = λ f. clash e f }
+
+  module _ {e : ℕ} (h : e ≡ at + firstOf lf (drop at s)) where
+    pub next-none : length s ≤ e → after ≡ before → LineAt answer s at before after (record { done = false; end = e; length = 0 })
+    next-none g k = record { said = record { line = λ f. clash f refl; kept = λ f. k }; none = λ f. omega arith }
+
+    pub next-slow : e < length s → most ≤ length before → {same : List ℕ} {w : Wrote} → same ≡ before
+        → Writes (answer (take (e - at) (drop at s))) same after w → LineAt answer s at before after (record { done = true; end = e; length = w .length })
+    next-slow g room k w =
+        let text = stands room (rw k at w) in
+        record { said = record { line = λ f. record { end = h; inside = g; text = text }; kept = λ f. clash refl f }; none = λ f. clash refl f }
 
 -- ---- scan
 
@@ -99,20 +119,6 @@ module _ {answer : List ℕ → List ℕ} {bad : List ℕ} {s out₀ out : List 
     room₀ : most ≤ length out₀ - o
     room₀ = omega (arith, k .long)
 
-    -- no line ends in the rest
-    pub stays : {e : ℕ} → e ≡ at + firstOf lf (drop at s) → length s ≤ e → Scans answer bad s out₀ out (record { at = at; length = o })
-    stays {e} h g =
-        let d = length-drop at s in
-        let q : length (drop at s) ≤ firstOf lf (drop at s) = omega (arith, k .inside) in
-        record {
-          inside = k .inside;
-          text = k .text;
-          fits = omega (arith, k .long);
-          whole = k .whole;
-          all = rw (le-leb _ _ room₀) (k .all ∙ omega (arith, used-open answer bad fresh (drop at s) room₀, none-used fresh (drop at s) q answer bad (length out₀ - o), k .inside));
-          last = λ z. q;
-        }
-
     -- a line ends at e
     turns : (over : (l : List ℕ) → 1024 < length l → answer l ≡ bad) {e n : ℕ} {out′ : List ℕ} → e ≡ at + firstOf lf (drop at s) → e < length s
         → length out′ ≡ length (drop o out) → Stands (answer (take (e - at) (drop at s))) (drop o out) out′ n
@@ -124,7 +130,7 @@ module _ {answer : List ℕ → List ℕ} {bad : List ℕ} {s out₀ out : List 
         let hu : firstOf lf (drop at s) < length (drop at s) = omega (arith, k .inside) in
         let w′ : Stands (answer (take v t)) (drop o out) out′ n = (let z : e - at ≡ v = omega arith in rw z at w) in
         let one : take (e + 1) s ≡ take at s ++ take (suc v) t = (let z : e + 1 ≡ at + suc v = omega arith in rw z (take-add at (suc v) s)) in
-        let c = closed-all answer bad over (take v t) in
+        let c = closed-all answer bad over holds-fresh (take v t) in
         let text : wrote answer bad fresh (take (e + 1) s) ≡ wrote answer bad fresh (take at s) ++ answer (take v t) =
         rw (one, wrote-append answer bad fresh (take at s) (take (suc v) t), k .whole, line-wrote fresh t hu answer bad, c) in
         let room′ : length out₀ - o - length (closed answer bad (pushedAll fresh (take v t))) ≡ length out₀ - (o + n) =
@@ -143,16 +149,34 @@ module _ {answer : List ℕ → List ℕ} {bad : List ℕ} {s out₀ out : List 
               ∙ omega arith;
         }
 
-    -- the same as the code has it: the answer is written to the part from o on
-    module _ {xs last : List ℕ} {r : Wrote} (kept : length last ≡ length (take (length out - o) (drop o out)))
-        (w : Writes xs (take (length out - o) (drop o out)) last r) where
-      told : Stands xs (take (length out - o) (drop o out)) last (r .length)
-      told = stands (omega (arith, ap length (tail-part out o), length-drop o out, k .within)) w
+    -- the same as the code has it: the part from o on is lent
+    module _ {last : List ℕ} {r : Next} (kept : length last ≡ length (take (length out - o) (drop o out)))
+        (n : LineAt answer s at (take (length out - o) (drop o out)) last r) where
+      -- no line ends in the rest
+      pub stays : r .done ≡ false → Scans answer bad s out₀ (take o out ++ (last ++ drop (length out - o) (drop o out))) (record { at = at; length = o })
+      stays e =
+          let d = length-drop at s in
+          let q : length (drop at s) ≤ firstOf lf (drop at s) = omega (arith, n .none e, k .inside) in
+          rw (lent-back o out (n .said .kept e))
+          (record {
+            inside = k .inside;
+            text = k .text;
+            fits = omega (arith, k .long);
+            whole = k .whole;
+            all = rw (le-leb _ _ room₀) (k .all ∙ omega (arith, used-open answer bad fresh (drop at s) room₀, none-used fresh (drop at s) q answer bad (length out₀ - o), k .inside));
+            last = λ z. q;
+          })
 
-      pub turn-fits : o + r .length ≤ length out
-      turn-fits = lent-fits o out last kept told (k .within)
+      module _ (e : r .done ≡ true) where
+        a : Answered answer s at (take (length out - o) (drop o out)) last r
+        a = n .said .line e
 
-    pub turn : (over : (l : List ℕ) → 1024 < length l → answer l ≡ bad) {e : ℕ} {last : List ℕ} {r : Wrote} → e ≡ at + firstOf lf (drop at s) → e < length s
-        → length last ≡ length (take (length out - o) (drop o out)) → Writes (answer (take (e - at) (drop at s))) (take (length out - o) (drop o out)) last r
-        → Kept answer bad s out₀ (take o out ++ (last ++ drop (length out - o) (drop o out))) (e + 1) (o + r .length)
-    turn over {last = last} h g kept w = turns over h g (lent-same o out last kept) (lent o out last kept (told kept w))
+        pub turn-fits : o + r .length ≤ length out
+        turn-fits = lent-fits o out last kept (a .text) (k .within)
+
+        pub turn-on : (at ≤ r .end) × (r .end < length s)
+        turn-on = (omega (arith, a .end), a .inside)
+
+        pub turn : ((l : List ℕ) → 1024 < length l → answer l ≡ bad)
+            → Kept answer bad s out₀ (take o out ++ (last ++ drop (length out - o) (drop o out))) (r .end + 1) (o + r .length)
+        turn over = turns over (a .end) (a .inside) (lent-same o out last kept) (lent o out last kept (a .text))

@@ -30,9 +30,13 @@ pub record Holds (p : List ℕ) (l : Line) : Type 0 where
   pub short : length p ≤ 1024 → (l .n ≡ length p) × (take (length p) (l .held) ≡ p)
   pub over : 1024 < length p → l .n ≡ 1025
 
-holds-fresh : Holds [] fresh
+-- with no byte yet the array may hold any
+pub holds-none : (l : Line) → length (l .held) ≡ 1024 → l .n ≡ 0 → Holds [] l
+holds-none l g e = record { long = g; short = λ h. (e, refl); over = λ h. absurd (omega arith) }
+
+pub holds-fresh : Holds [] fresh
 unfolding fresh
-holds-fresh = record { long = length-replicate {A = ℕ} 1024 0; short = λ h. (refl, refl); over = λ h. absurd (omega arith) }
+holds-fresh = holds-none fresh (length-replicate {A = ℕ} 1024 0) refl
 
 module _ (p : List ℕ) (l : Line) (h : Holds p l) where
   is-short : l .n ≤ 1024 → length p ≤ 1024
@@ -103,9 +107,9 @@ module _ (answer : List ℕ → List ℕ) (bad : List ℕ) (over : (l : List ℕ
       (λ a e. sym (over p (is-over p l h (leb-false _ _ e))))
       refl
 
-  -- a line that stands whole in a piece is answered as it would be carried
-  pub closed-all : (s : List ℕ) → closed answer bad (pushedAll fresh s) ≡ answer s
-  closed-all s = closed-is s (pushedAll fresh s) (holds-all [] s fresh holds-fresh)
+  -- a line that stands whole in a piece is answered as it would be carried, whatever the array held before
+  pub closed-all : {l : Line} → Holds [] l → (s : List ℕ) → closed answer bad (pushedAll l s) ≡ answer s
+  closed-all {l} h s = closed-is s (pushedAll l s) (holds-all [] s l h)
 
   ended-is : (p : List ℕ) (l : Line) → Holds p l → ended answer bad l ≡ answers answer (linesFrom p [])
   unfolding ended answers linesFrom

@@ -11,7 +11,7 @@ use Rattle.batch.specs.declared.stream.Fed.{Fed}
 use Rattle.batch.specs.declared.stream.Finished.{Finished}
 use Rattle.batch.specs.declared.stream.Line.{Line}
 use Rattle.batch.specs.declared.stream.Scanned.{Scanned}
-use Rattle.batch.specs.Stream.{lf, fresh, after, most, wrote, ended, used}
+use Rattle.batch.specs.Stream.{lf, fresh, pushedAll, after, most, wrote, ended, used}
 
 -- xs stands at the buffer's start, n is its length, and past it is what was there before
 pub record Stands (xs before after : List ℕ) (n : ℕ) : Type 0 where
@@ -22,6 +22,13 @@ pub record Stands (xs before after : List ℕ) (n : ℕ) : Type 0 where
 pub record Writes (xs before after : List ℕ) (r : Wrote) : Type 0 where
   pub done : r .done ≡ leb most (length before)
   pub text : Stands (pick (leb most (length before)) xs []) before after (r .length)
+
+-- of a piece s whose lines up to `at` are answered, in o bytes: with room for a further answer the rest is carried on
+unfoldable pub restOf : List ℕ → ℕ → ℕ → ℕ → Fed
+restOf s at o room =
+    pick (leb most room)
+    (record { used = length s; wrote = o; line = pushedAll fresh (drop at s) })
+    (record { used = at; wrote = o; line = fresh })
 
 module _ (answer : List ℕ → List ℕ) (bad : List ℕ) where
   -- the lines that end in s are answered while there is room: up to `at`, the start of a line

@@ -2,7 +2,7 @@
 use mathlib.Core.Bool.{true, false}
 use mathlib.Core.List.{List}
 use mathlib.Core.Path.{_≡_}
-use Prim.Native.Nat.{ℕ, _+_, _-_, _<_}
+use Prim.Native.Nat.{ℕ, _+_, _-_, _≤_, _<_}
 use lib.ListN.{length, take, drop}
 use Rattle.lists.specs.Tests.{firstOf}
 use Rattle.batch.specs.declared.answer.Next.{Next}
@@ -19,3 +19,8 @@ pub record Answered (answer : List ℕ → List ℕ) (s : List ℕ) (at : ℕ) (
 pub record Quick (answer : List ℕ → List ℕ) (s : List ℕ) (at : ℕ) (before after : List ℕ) (r : Next) : Type 0 where
   pub line : r .done ≡ true → Answered answer s at before after r
   pub kept : r .done ≡ false → after ≡ before
+
+-- the same, and otherwise no line ends from `at` on
+pub record LineAt (answer : List ℕ → List ℕ) (s : List ℕ) (at : ℕ) (before after : List ℕ) (r : Next) : Type 0 where
+  pub said : Quick answer s at before after r
+  pub none : r .done ≡ false → length s ≤ at + firstOf lf (drop at s)

@@ -1,15 +1,18 @@
 // A batch that arrives in pieces which know nothing of lines: each piece is fed, and then the end is told. What is carried from
-// piece to piece is the line whose end has not come. Their meaning is defined in specs/: Stream, Feed.
+// piece to piece is the line whose end has not come. Their meaning is defined in specs/: Stream, Feed, Next.
 ghost use mathlib.Core.Path.{_≡_};
-ghost use Prim.Native.Nat.{_+_};
-ghost use lib.ListN.{drop};
+ghost use Prim.Native.Nat.{_+_, _≤_};
+ghost use lib.ListN.{length, drop};
 ghost use Rattle.lists.specs.Tests.{firstOf};
 ghost use Rattle.rules.specs.Editions.{todayWith};
 ghost use Rattle.batch.specs.Answer.{answerTo, badAnswer};
 ghost use Rattle.batch.specs.Stream.{lf, fresh, pushedAll, closed};
-ghost use Rattle.batch.specs.Feed.{Writes, Scans, Feeds, Finishes};
+ghost use Rattle.batch.specs.Feed.{Writes, Scans, Feeds, restOf, Finishes};
+ghost use Rattle.batch.specs.Next.{LineAt};
+use crate::answer::Next;
 use crate::answer::Wrote;
 use crate::answer::answer;
+use crate::answer::quick;
 
 // A line of more bytes is refused.
 const LINE: usize = 1024;
@@ -99,6 +102,31 @@ fn close(kanji: &[u32], line: Line, out: &mut [u8]) -> Wrote
     answer(kanji, &long, out)
 }
 
+// Answers the line that begins at `at`, where it ends in s.
+fn next(kanji: &[u32], s: &[u8], at: usize, out: &mut [u8]) -> Next
+    requires { ⌜ (at ≤ length (now s)) × (256 ≤ length (now out)) ⌝ }
+    ensures { λ r. ⌜ LineAt (answerTo (todayWith (now (kanji .entry)))) (now (s .entry)) at (now (out .entry)) (now (out .exit)) r ⌝ }
+{
+    let q = quick(kanji, s, at, out);
+    if q.done {
+        return q;
+    }
+    let e = find_lf(s, at);
+    if s.len() <= e {
+        return Next {
+            done: false,
+            end: e,
+            length: 0,
+        };
+    }
+    let w = answer(kanji, &s[at..e], out);
+    Next {
+        done: true,
+        end: e,
+        length: w.length,
+    }
+}
+
 // Answers the lines that end in s, straight from it, while there is room.
 fn scan(kanji: &[u32], s: &[u8], out: &mut [u8]) -> Scanned
     ensures { λ r. ⌜ Scans (answerTo (todayWith (now (kanji .entry)))) badAnswer (now (s .entry)) (now (out .entry)) (now (out .exit)) r ⌝ }
@@ -106,15 +134,51 @@ fn scan(kanji: &[u32], s: &[u8], out: &mut [u8]) -> Scanned
     let mut at = 0;
     let mut o = 0;
     while MOST <= out.len() - o {
-        let e = find_lf(s, at);
-        if s.len() <= e {
+        let line = next(kanji, s, at, &mut out[o..]);
+        if !line.done {
             return Scanned { at: at, length: o };
         }
-        let w = answer(kanji, &s[at..e], &mut out[o..]);
-        o += w.length;
-        at = e + 1;
+        o += line.length;
+        at = line.end + 1;
     }
     Scanned { at: at, length: o }
+}
+
+// The lines of a piece up to `at` are answered, in o bytes: with room for a further answer the rest is carried on.
+fn rest(chunk: &[u8], at: usize, o: usize, room: usize) -> Fed
+    requires { ⌜ at ≤ length (now chunk) ⌝ }
+    ensures { λ r. ⌜ r ≡ restOf (now (chunk .entry)) at o room ⌝ }
+{
+    if room < MOST {
+        return Fed {
+            used: at,
+            wrote: o,
+            line: new(),
+        };
+    }
+    Fed {
+        used: chunk.len(),
+        wrote: o,
+        line: carried(new(), &chunk[at..]),
+    }
+}
+
+// Feeds a piece that begins with a line, since no byte is carried: its lines are answered straight from it.
+fn feed_lines(kanji: &[u32], line: Line, chunk: &[u8], out: &mut [u8]) -> Fed
+    requires { ⌜ (line .n ≡ 0) × (256 ≤ length (now out)) ⌝ }
+    ensures { λ r. ⌜ Feeds (answerTo (todayWith (now (kanji .entry)))) badAnswer line (now (chunk .entry)) (now (out .entry)) (now (out .exit)) r ⌝ }
+{
+    let t = scan(kanji, chunk, out);
+    let at = t.at;
+    let o = t.length;
+    if at == 0 {
+        return Fed {
+            used: chunk.len(),
+            wrote: 0,
+            line: carried(line, chunk),
+        };
+    }
+    rest(chunk, at, o, out.len() - o)
 }
 
 // Feeds a piece: answers each line that ends in it, while there is room, and carries on the rest. What it does not use is fed again.
@@ -127,6 +191,9 @@ pub fn feed(kanji: &[u32], line: Line, chunk: &[u8], out: &mut [u8]) -> Fed
             wrote: 0,
             line: line,
         };
+    }
+    if line.n == 0 {
+        return feed_lines(kanji, line, chunk, out);
     }
     let e = find_lf(chunk, 0);
     if chunk.len() <= e {
@@ -143,18 +210,7 @@ pub fn feed(kanji: &[u32], line: Line, chunk: &[u8], out: &mut [u8]) -> Fed
     let t = scan(kanji, &chunk[s..], &mut out[n..]);
     let at = s + t.at;
     let o = n + t.length;
-    if out.len() - o < MOST {
-        return Fed {
-            used: at,
-            wrote: o,
-            line: new(),
-        };
-    }
-    Fed {
-        used: chunk.len(),
-        wrote: o,
-        line: carried(new(), &chunk[at..]),
-    }
+    rest(chunk, at, o, out.len() - o)
 }
 
 // The end of the input: the answer to a last line that no LF ended. Where there is no room it is not done, and nothing is written.

@@ -1,9 +1,10 @@
--- `feed` meets its contract: the first line goes through the carried one, the lines after it are scanned, the rest is carried on.
+-- `feed` meets its contract: with no byte carried the piece begins with a line; otherwise its first line goes through the carried one,
+-- the lines after it are scanned, and the rest is carried on.
 -- Assumes nothing.
 use native.Mathlib.Omega.{arith}
 use Rattle.batch.proofs.Lent.{fits}
 use Rattle.batch.proofs.Turns.{stands}
-use Rattle.batch.proofs.Feeding.{no-room, no-line, o-fits, o-back, feeds-full, feeds-done}
+use Rattle.batch.proofs.Feeding.{no-room, no-line, o-fits, o-back, feeds-rest}
 use borrow.Author.Needs.{needs}
 use Rattle.batch.proofs.stream.feed.Statement.{statement}
 use Rattle.batch.proofs.stream.feed.Tie as tie
@@ -11,14 +12,23 @@ use Rattle.batch.proofs.stream.feed.Tie as tie
 returns : tie.Need-returns
 returns c = no-room _ _ _ _ _ (c .if1 .taken)
 
+feed-lines-requires : tie.Need-feed-lines-requires
+feed-lines-requires c κs = search needs
+
+same-length : tie.Need-same-length
+same-length c = search needs
+
+returns-2 : tie.Need-returns-2
+returns-2 c = search needs
+
 find-lf-requires : tie.Need-find-lf-requires
 find-lf-requires c κs = search needs
 
 carried-requires : tie.Need-carried-requires
 carried-requires c κs = search needs
 
-returns-2 : tie.Need-returns-2
-returns-2 c = no-line _ _ _ _ _ _ (c .before .before .before .if1 .left) (c .before .before .find-lf .ensures) (c .before .if2 .taken) (c .carried .ensures)
+returns-3 : tie.Need-returns-3
+returns-3 c = no-line _ _ _ _ _ _ (c .before .before .before .before .before .if1 .left) (c .before .before .find-lf .ensures) (c .before .if3 .taken) (c .carried .ensures)
 
 sub-carried : tie.Need-sub-carried
 sub-carried c = search needs
@@ -48,10 +58,14 @@ part-scan-end : tie.Need-part-scan-end
 part-scan-end c = search needs
 
 sub-scan-2 : tie.Need-sub-scan-2
-sub-scan-2 c = omega (arith, fits (stands (c .before .before .before .before .before .before .before .before .before .if1 .left) (c .before .before .before .close .ensures)))
+sub-scan-2 c =
+    let answered = c .before .before .before in
+    omega (arith, fits (stands (answered .before .before .before .before .before .before .before .before .if1 .left) (answered .close .ensures)))
 
 part-scan-start-2 : tie.Need-part-scan-start-2
-part-scan-start-2 c = omega (arith, fits (stands (c .before .before .before .before .before .before .before .before .before .if1 .left) (c .before .before .before .close .ensures)))
+part-scan-start-2 c =
+    let answered = c .before .before .before in
+    omega (arith, fits (stands (answered .before .before .before .before .before .before .before .before .if1 .left) (answered .close .ensures)))
 
 part-scan-end-2 : tie.Need-part-scan-end-2
 part-scan-end-2 c = search needs
@@ -60,7 +74,13 @@ scan-requires : tie.Need-scan-requires
 scan-requires c κs = search needs
 
 add-at : tie.Need-add-at
-add-at c = search needs
+add-at c =
+    let scanned = c .before .before .before in
+    let answered = scanned .before .before .before .before .before in
+    let ended = answered .before .before .before .before in
+    let roomy = ended .before .before .before .before in
+    let start = roomy .before .before .before .before in
+    omega (arith, start .good .1 .1 .0 .0)
 
 add-o : tie.Need-add-o
 add-o c =
@@ -68,80 +88,54 @@ add-o c =
     let answered = scanned .before .before .before .before .before in
     let kept = answered .before .before in
     let ended = kept .before .before in
-    let roomy = ended .before .before in
-    let a = roomy .before .before .before .before .args in
+    let roomy = ended .before .before .before .before in
+    let start = roomy .before .before .before .before in
     omega (
       arith,
-      o-fits (a .line) (a .chunk .now) (roomy .if1 .left) (answered .close .kept .1 .1 .0) (ended .before .find-lf .ensures) (ended .if2 .left)
+      o-fits (start .args .line) (start .args .chunk .now) (roomy .if1 .left) (answered .close .kept .1 .1 .0) (ended .before .find-lf .ensures) (ended .if3 .left)
           (kept .carried2 .ensures) (answered .close .ensures) (scanned .scan .kept .1 .1 .0) (scanned .scan .ensures),
-      roomy .before .before .before .before .good .1 .1 .1 .0 .0,
+      start .good .1 .1 .1 .0 .0,
     )
 
-sub-if3 : tie.Need-sub-if3
-sub-if3 c =
+sub-rest : tie.Need-sub-rest
+sub-rest c =
     let scanned = c .before .before .before .before in
     let answered = scanned .before .before .before .before .before in
     let kept = answered .before .before in
     let ended = kept .before .before in
-    let roomy = ended .before .before in
-    let a = roomy .before .before .before .before .args in
-    o-back (a .line) (a .chunk .now) (roomy .if1 .left) (answered .close .kept .1 .1 .0) (ended .before .find-lf .ensures) (ended .if2 .left)
+    let roomy = ended .before .before .before .before in
+    let start = roomy .before .before .before .before in
+    o-back (start .args .line) (start .args .chunk .now) (roomy .if1 .left) (answered .close .kept .1 .1 .0) (ended .before .find-lf .ensures) (ended .if3 .left)
     (kept .carried2 .ensures) (answered .close .ensures) (scanned .scan .kept .1 .1 .0) (scanned .scan .ensures)
 
-new-requires : tie.Need-new-requires
-new-requires c κs = search needs
-
-same-length : tie.Need-same-length
-same-length c = search needs
-
-returns-3 : tie.Need-returns-3
-returns-3 c =
-    let scanned = c .before .before .before .before .before .before in
-    let answered = scanned .before .before .before .before .before in
-    let kept = answered .before .before in
-    let ended = kept .before .before in
-    let roomy = ended .before .before in
-    let a = roomy .before .before .before .before .args in
-    feeds-full (a .line) (a .chunk .now) (roomy .if1 .left) (answered .close .kept .1 .1 .0) (ended .before .find-lf .ensures) (ended .if2 .left)
-    (kept .carried2 .ensures) (answered .close .ensures) (scanned .scan .kept .1 .1 .0) (scanned .scan .ensures) (c .before .if3 .taken) (c .new .ensures)
-
-new-requires-2 : tie.Need-new-requires-2
-new-requires-2 c κs = search needs
-
-sub-carried-2 : tie.Need-sub-carried-2
-sub-carried-2 c = search needs
-
-part-carried-start-2 : tie.Need-part-carried-start-2
-part-carried-start-2 c = search needs
-
-part-carried-end-2 : tie.Need-part-carried-end-2
-part-carried-end-2 c = search needs
-
-carried-requires-3 : tie.Need-carried-requires-3
-carried-requires-3 c κs = search needs
+rest-requires : tie.Need-rest-requires
+rest-requires c κs = search needs
 
 same-length-2 : tie.Need-same-length-2
 same-length-2 c = search needs
 
 returns-4 : tie.Need-returns-4
 returns-4 c =
-    let scanned = c .before .before .before .before .before .before .before .before in
+    let scanned = c .before .before .before .before .before in
     let answered = scanned .before .before .before .before .before in
     let kept = answered .before .before in
     let ended = kept .before .before in
-    let roomy = ended .before .before in
-    let a = roomy .before .before .before .before .args in
-    feeds-done (a .line) (a .chunk .now) (roomy .if1 .left) (answered .close .kept .1 .1 .0) (ended .before .find-lf .ensures) (ended .if2 .left)
-    (kept .carried2 .ensures) (answered .close .ensures) (scanned .scan .kept .1 .1 .0) (scanned .scan .ensures) (c .before .before .before .if3 .left) (c .before .before .new2 .ensures) (c .carried3 .ensures)
+    let roomy = ended .before .before .before .before in
+    let start = roomy .before .before .before .before in
+    feeds-rest (start .args .line) (start .args .chunk .now) (roomy .if1 .left) (answered .close .kept .1 .1 .0) (ended .before .find-lf .ensures) (ended .if3 .left)
+    (kept .carried2 .ensures) (answered .close .ensures) (scanned .scan .kept .1 .1 .0) (scanned .scan .ensures) (c .rest .ensures)
 
 pub feed-spec : {M : Type 1} → statement M
 feed-spec =
     tie.close
     (tie.spec
     returns
+    feed-lines-requires
+    same-length
+    returns-2
     find-lf-requires
     carried-requires
-    returns-2
+    returns-3
     sub-carried
     part-carried-start
     part-carried-end
@@ -157,14 +151,7 @@ feed-spec =
     scan-requires
     add-at
     add-o
-    sub-if3
-    new-requires
-    same-length
-    returns-3
-    new-requires-2
-    sub-carried-2
-    part-carried-start-2
-    part-carried-end-2
-    carried-requires-3
+    sub-rest
+    rest-requires
     same-length-2
     returns-4)

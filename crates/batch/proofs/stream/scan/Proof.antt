@@ -3,10 +3,11 @@
 use Prim.Native.Nat.{_-_}
 use native.Mathlib.Omega.{arith}
 use lib.ListN.{length}
+use borrow.Author.Tests.{not-true, not-false}
 use Rattle.rules.specs.Editions.{todayWith}
 use Rattle.batch.specs.Answer.{answerTo, badAnswer}
-use Rattle.batch.proofs.Asked.{too-long, writes}
-use Rattle.batch.proofs.Turns.{Kept, begins, stays, stops, turn, turn-fits}
+use Rattle.batch.proofs.Asked.{too-long}
+use Rattle.batch.proofs.Turns.{Kept, begins, stays, stops, turn, turn-on, turn-fits}
 use borrow.Author.Needs.{needs}
 use Rattle.batch.proofs.stream.scan.Statement.{statement}
 use Rattle.batch.proofs.stream.scan.Tie as tie
@@ -23,53 +24,54 @@ loop-holds c = begins _ _ _ _
 sub-loop : tie.Need-sub-loop Inv-loop μ-loop
 sub-loop c = search needs
 
-find-lf-requires : tie.Need-find-lf-requires Inv-loop μ-loop
-find-lf-requires c κs = search needs
+sub-next : tie.Need-sub-next Inv-loop μ-loop
+sub-next c = search needs
+
+part-next-start : tie.Need-part-next-start Inv-loop μ-loop
+part-next-start c = search needs
+
+part-next-end : tie.Need-part-next-end Inv-loop μ-loop
+part-next-end c = search needs
+
+next-requires : tie.Need-next-requires Inv-loop μ-loop
+next-requires c κs = search needs
 
 same-length : tie.Need-same-length Inv-loop μ-loop
 same-length c = search needs
 
 returns : tie.Need-returns Inv-loop μ-loop
-returns c = stays (c .before .before .before .loop .inv) (c .before .before .loop-test .taken) (c .before .find-lf .ensures) (c .if1 .taken)
-
-sub-answer : tie.Need-sub-answer Inv-loop μ-loop
-sub-answer c = search needs
-
-part-answer-start : tie.Need-part-answer-start Inv-loop μ-loop
-part-answer-start c = search needs
-
-part-answer-end : tie.Need-part-answer-end Inv-loop μ-loop
-part-answer-end c = search needs
-
-sub-answer-2 : tie.Need-sub-answer-2 Inv-loop μ-loop
-sub-answer-2 c = search needs
-
-part-answer-start-2 : tie.Need-part-answer-start-2 Inv-loop μ-loop
-part-answer-start-2 c = search needs
-
-part-answer-end-2 : tie.Need-part-answer-end-2 Inv-loop μ-loop
-part-answer-end-2 c = search needs
-
-answer-requires : tie.Need-answer-requires Inv-loop μ-loop
-answer-requires c κs = search needs
+returns c =
+    let line = c .before .before .before .before in
+    let loop = line .before .before in
+    stays (loop .before .loop .inv) (loop .loop-test .taken) (line .next .kept .1 .1 .1 .0) (line .next .ensures) (not-true _ (c .if1 .taken))
 
 add-o : tie.Need-add-o Inv-loop μ-loop
 add-o c =
-    let l = c .before .before .before .before .before .before .before .before .before .loop in
-    let w = c .before .before .before .answer in
-    omega (arith, turn-fits (l .inv) (c .before .before .before .before .before .before .before .before .loop-test .taken) (w .kept .1 .1 .0) (writes (w .ensures)))
+    let end = c .before in
+    let line = end .before .before .before .before in
+    let loop = line .before .before in
+    omega (arith, turn-fits (loop .before .loop .inv) (loop .loop-test .taken) (line .next .kept .1 .1 .1 .0) (line .next .ensures) (not-false _ (end .if1 .left)), loop .before .before .before .before .before .good .1 .1 .0 .0)
 
 add-at : tie.Need-add-at Inv-loop μ-loop
-add-at c = search needs
+add-at c =
+    let end = c .before .before in
+    let line = end .before .before .before .before in
+    let loop = line .before .before in
+    omega (arith, turn-on (loop .before .loop .inv) (loop .loop-test .taken) (line .next .kept .1 .1 .1 .0) (line .next .ensures) (not-false _ (end .if1 .left)), loop .before .before .before .before .before .good .1 .0 .0)
 
 loop-less : tie.Need-loop-less Inv-loop μ-loop
-loop-less c = search needs
+loop-less c =
+    let end = c .before .before in
+    let line = end .before .before .before .before in
+    let loop = line .before .before in
+    omega (arith, turn-on (loop .before .loop .inv) (loop .loop-test .taken) (line .next .kept .1 .1 .1 .0) (line .next .ensures) (not-false _ (end .if1 .left)))
 
 loop-again : tie.Need-loop-again Inv-loop μ-loop
 loop-again c =
-    let l = c .before .before .before .before .before .before .before .before .before .loop in
-    let w = c .before .before .before .answer in
-    turn (l .inv) (c .before .before .before .before .before .before .before .before .loop-test .taken) (too-long _) (c .before .before .before .before .before .before .before .find-lf .ensures) (c .before .before .before .before .before .before .if1 .left) (w .kept .1 .1 .0) (writes (w .ensures))
+    let end = c .before .before in
+    let line = end .before .before .before .before in
+    let loop = line .before .before in
+    turn (loop .before .loop .inv) (loop .loop-test .taken) (line .next .kept .1 .1 .1 .0) (line .next .ensures) (not-false _ (end .if1 .left)) (too-long _)
 
 same-length-2 : tie.Need-same-length-2 Inv-loop μ-loop
 same-length-2 c = search needs
@@ -85,16 +87,12 @@ scan-spec =
     μ-loop
     loop-holds
     sub-loop
-    find-lf-requires
+    sub-next
+    part-next-start
+    part-next-end
+    next-requires
     same-length
     returns
-    sub-answer
-    part-answer-start
-    part-answer-end
-    sub-answer-2
-    part-answer-start-2
-    part-answer-end-2
-    answer-requires
     add-o
     add-at
     loop-less
