@@ -7,13 +7,13 @@ use Prim.Native.Nat.{ℕ, _-_, _/_, _%_, _≤_}
 use lib.ListN.{getD}
 use Rattle.lists.specs.Tests.{within, elem}
 use Rattle.lists.proofs.Laws.{both, in-range}
-use Rattle.characters.specs.Characters.{hiragana, katakana, signs, japaneseBy, bitSet, kanjiWith, japaneseWith, kanaOrKanji}
+use Rattle.characters.specs.Characters.{hiragana, katakana, signs, japaneseBy, bitSet, kanjiWith, japaneseWith, kanaOrKanjiWith}
 
 module _ (table : List ℕ) (c : ℕ) where
   -- what holds in each of the three stretches
-  pub by-stretch : {A : Type 0} → kanaOrKanji table c ≡ true → ((0x3041 ≤ c) × (c ≤ 0x3093) → A) → ((0x30A1 ≤ c) × (c ≤ 0x30F6) → A)
+  pub by-stretch : {A : Type 0} → kanaOrKanjiWith table c ≡ true → ((0x3041 ≤ c) × (c ≤ 0x3093) → A) → ((0x30A1 ≤ c) × (c ≤ 0x30F6) → A)
       → ((0x4E00 ≤ c) × (c ≤ 0x9FA0) → A) → A
-  unfolding kanaOrKanji hiragana katakana kanjiWith
+  unfolding kanaOrKanjiWith hiragana katakana kanjiWith
   by-stretch {A} e f g k = go (within 0x3041 0x3093 c) refl (within 0x30A1 0x30F6 c) refl e
     where
       go : (h : Bool) → within 0x3041 0x3093 c ≡ h → (t : Bool) → within 0x30A1 0x30F6 c ≡ t → h || (t || kanjiWith table c) ≡ true → A
@@ -21,8 +21,8 @@ module _ (table : List ℕ) (c : ℕ) where
       go false p true q e = g (in-range 0x30A1 0x30F6 c q)
       go false p false q e = k (in-range 0x4E00 0x9FA0 c (both (within 0x4E00 0x9FA0 c) (bitSet (getD table ((c - 0x4E00) / 32) 0) ((c - 0x4E00) % 32)) e .0))
 
-  with-signs : kanaOrKanji table c || elem c signs ≡ japaneseWith table c
-  unfolding kanaOrKanji japaneseWith japaneseBy
+  with-signs : kanaOrKanjiWith table c || elem c signs ≡ japaneseWith table c
+  unfolding kanaOrKanjiWith japaneseWith japaneseBy
   with-signs = go (hiragana c) (katakana c) (kanjiWith table c) (elem c signs)
     where
       go : (h t k s : Bool) → h || (t || k) || s ≡ h || (t || (s || k))
@@ -33,7 +33,7 @@ module _ (table : List ℕ) (c : ℕ) where
       go false false false true = refl
       go false false false false = refl
 
-  module _ {k : Bool} (e : k ≡ kanaOrKanji table c) where
+  module _ {k : Bool} (e : k ≡ kanaOrKanjiWith table c) where
     pub no-sign : k ≡ true → true ≡ japaneseWith table c
     no-sign p = ap (λ (b : Bool). b || elem c signs) (sym p ∙ e) ∙ with-signs
 

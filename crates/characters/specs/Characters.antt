@@ -47,5 +47,5 @@ unfoldable pub japaneseWith : List ℕ → ℕ → Bool
 japaneseWith table c = japaneseBy (kanjiWith table) c
 
 -- the same without the signs
-unfoldable pub kanaOrKanji : List ℕ → ℕ → Bool
-kanaOrKanji table c = hiragana c || (katakana c || kanjiWith table c)
+unfoldable pub kanaOrKanjiWith : List ℕ → ℕ → Bool
+kanaOrKanjiWith table c = hiragana c || (katakana c || kanjiWith table c)

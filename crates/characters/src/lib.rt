@@ -9,7 +9,7 @@ ghost use Prim.Native.Nat.{_+_, _<_};
 ghost use lib.Dec.{ltb};
 ghost use lib.ListN.{getD};
 ghost use Rattle.lists.specs.Tests.{pick, within, elem};
-ghost use Rattle.characters.specs.Characters.{alnum, asciiSet, signs, japanese, bitSet, kanjiWith, kanaOrKanji, japaneseWith};
+ghost use Rattle.characters.specs.Characters.{alnum, asciiSet, signs, japanese, bitSet, kanjiWith, kanaOrKanjiWith, japaneseWith};
 ghost use Rattle.characters.specs.Replace.{halfKana, classOf, replace};
 ghost use Rattle.characters.specs.Compose.{composed};
 
@@ -84,7 +84,7 @@ fn is_kanji(kanji: &[u32], c: u32) -> bool
 
 // Hiragana, katakana or a kanji, by a lent table: a Japanese character that is no sign?
 pub fn is_kana_or_kanji(kanji: &[u32], c: u32) -> bool
-    ensures { λ r. ⌜ r ≡ kanaOrKanji (now (kanji .entry)) c ⌝ }
+    ensures { λ r. ⌜ r ≡ kanaOrKanjiWith (now (kanji .entry)) c ⌝ }
 {
     if between(0x3041, 0x3093, c) {
         return true;

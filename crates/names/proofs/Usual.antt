@@ -15,7 +15,7 @@ use Rattle.lists.specs.Tests.{within, allOf, anyOf, same}
 use Rattle.lists.specs.Front.{written}
 use Rattle.lists.proofs.Laws.{both, or-left, or-right, clash, inside, outside, in-range, all-append, all-weaker, all-none, same-refl, same-is}
 use Rattle.lists.proofs.Tables.{Clear}
-use Rattle.characters.specs.Characters.{alnum, hyphen, asciiSet, hiragana, katakana, kanjiWith, kanaOrKanji}
+use Rattle.characters.specs.Characters.{alnum, hyphen, asciiSet, hiragana, katakana, kanjiWith, kanaOrKanjiWith}
 use Rattle.characters.specs.Replace.{ranges, rangeIn, isHalf, replaceIn, replace}
 use Rattle.characters.proofs.Classes.{stays, ascii-stays}
 use Rattle.characters.proofs.Stretches.{by-stretch, no-sign}
@@ -46,17 +46,17 @@ module _ (table : List ℕ) (c : ℕ) where
   -- below 3041 there is no kana and no kanji, and from there on nothing of the ASCII set
   pub plain-below : {a : Bool} → c < 0x3041 → a ≡ asciiSet c → a ≡ plain table c
   unfolding plain
-  plain-below h e = e ∙ go (kanaOrKanji table c) refl
+  plain-below h e = e ∙ go (kanaOrKanjiWith table c) refl
     where
-      go : (k : Bool) → kanaOrKanji table c ≡ k → asciiSet c ≡ asciiSet c || kanaOrKanji table c
+      go : (k : Bool) → kanaOrKanjiWith table c ≡ k → asciiSet c ≡ asciiSet c || kanaOrKanjiWith table c
       go true p = absurd (by-stretch table c p (λ r. omega arith) (λ r. omega arith) (λ r. omega arith))
       go false p = rw p (sym (or-false (asciiSet c)))
 
-  pub plain-above : {k : Bool} → 0x3041 ≤ c → k ≡ kanaOrKanji table c → k ≡ plain table c
+  pub plain-above : {k : Bool} → 0x3041 ≤ c → k ≡ kanaOrKanjiWith table c → k ≡ plain table c
   unfolding plain
   plain-above h e = e ∙ go (asciiSet c) refl
     where
-      go : (a : Bool) → asciiSet c ≡ a → kanaOrKanji table c ≡ asciiSet c || kanaOrKanji table c
+      go : (a : Bool) → asciiSet c ≡ a → kanaOrKanjiWith table c ≡ asciiSet c || kanaOrKanjiWith table c
       go true p = absurd (let r = ascii-range c p in omega arith)
       go false p = rw p
 
@@ -66,27 +66,27 @@ module _ (table : List ℕ) (c : ℕ) where
 
   module _ (e : plain table c ≡ true) where
     plain-period : period c ≡ false
-    unfolding period plain asciiSet alnum hyphen kanaOrKanji hiragana katakana kanjiWith within
+    unfolding period plain asciiSet alnum hyphen kanaOrKanjiWith hiragana katakana kanjiWith within
     plain-period = ne-eqb c 0x2E (differs 0x2E refl e)
 
     plain-dot : middleDot c ≡ false
-    unfolding middleDot plain asciiSet alnum hyphen kanaOrKanji hiragana katakana kanjiWith within
+    unfolding middleDot plain asciiSet alnum hyphen kanaOrKanjiWith hiragana katakana kanjiWith within
     plain-dot = ne-eqb c 0x30FB (differs 0x30FB refl e)
 
     kept : c ≡ replace c
     unfolding plain
     kept =
-        either (asciiSet c) (kanaOrKanji table c) e (ascii-stays c)
+        either (asciiSet c) (kanaOrKanjiWith table c) e (ascii-stays c)
         (λ k. by-stretch table c k (λ r. stays c (omega arith) (omega arith)) (λ r. stays c (omega arith) (omega arith)) (λ r. stays c (omega arith) (omega arith)))
 
     plain-unchanged : unchanged c ≡ true
-    unfolding plain asciiSet alnum hyphen kanaOrKanji hiragana katakana kanjiWith within
+    unfolding plain asciiSet alnum hyphen kanaOrKanjiWith hiragana katakana kanjiWith within
     plain-unchanged = unchanged-by c kept (differs 0x309B refl e) (differs 0x309C refl e)
 
     plain-fit : labelChar (todayWith table) c ≡ true
     unfolding plain labelChar todayWith
     plain-fit =
-        either (asciiSet c) (kanaOrKanji table c) e (λ p. or-right (todayWith table .japanese c) (asciiSet c) p)
+        either (asciiSet c) (kanaOrKanjiWith table c) e (λ p. or-right (todayWith table .japanese c) (asciiSet c) p)
         (λ p. or-left (todayWith table .japanese c) (asciiSet c) (sym (no-sign table c refl p)))
 
 -- ---- ".jp" at the end of a text

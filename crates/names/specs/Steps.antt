@@ -8,7 +8,7 @@ use lib.ListN.{length, take, drop}
 use Rattle.lists.specs.Tests.{pick, within, allOf, same}
 use Rattle.lists.specs.Front.{written}
 use Rattle.lists.specs.Rows.{Row, row, first}
-use Rattle.characters.specs.Characters.{asciiSet, kanaOrKanji}
+use Rattle.characters.specs.Characters.{asciiSet, kanaOrKanjiWith}
 use Rattle.rules.specs.Labels.{labels}
 use Rattle.rules.specs.Permits.{Permits}
 use Rattle.rules.specs.Rules.{isJapanese, hyphenEdge, labelRows, jp, nameRows, verdict, rules}
@@ -98,7 +98,7 @@ pub record TriesOne (takes : Bool) (piece before after : List ℕ) (at : ℕ) (r
 
 -- of the ASCII set, kana or a kanji: what the normal form leaves as it is, and what may stand in a label
 unfoldable pub plain : List ℕ → ℕ → Bool
-plain table c = asciiSet c || kanaOrKanji table c
+plain table c = asciiSet c || kanaOrKanjiWith table c
 
 -- one to which ".jp" can be put
 pub record PlainLabel (table label : List ℕ) : Type 0 where
