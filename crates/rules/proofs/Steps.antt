@@ -44,29 +44,6 @@ empty-is [] = refl
 empty-is (x ∷ xs) = sym (ne-eqb (suc (length xs)) 0 (λ e. omega arith))
 
 module _ (P : Permits) (least : ℕ) (l : List ℕ) (at : ℕ) where
-  pub label-7 : hyphenEdge l ≡ true → first (labelRows P least l at) ≡ record { number = 7; place = at }
-  unfolding labelRows
-  label-7 e = hit 7 _ at _ e
-
-  module _ (no-7 : hyphenEdge l ≡ false) where
-    pub label-8 : short P least l ≡ true → first (labelRows P least l at) ≡ record { number = 8; place = at }
-    unfolding labelRows
-    label-8 e = passed-over 7 _ at _ no-7 ∙ hit 8 _ at _ e
-
-    module _ (no-8 : short P least l ≡ false) where
-      pub label-9 : long P l ≡ true → first (labelRows P least l at) ≡ record { number = 9; place = at }
-      unfolding labelRows
-      label-9 e = passed-over 7 _ at _ no-7 ∙ passed-over 8 _ at _ no-8 ∙ hit 9 _ at _ e
-
-      module _ (no-9 : long P l ≡ false) where
-        pub label-10 : bareDot P l ≡ true → first (labelRows P least l at) ≡ record { number = 10; place = at }
-        unfolding labelRows
-        label-10 e = passed-over 7 _ at _ no-7 ∙ passed-over 8 _ at _ no-8 ∙ passed-over 9 _ at _ no-9 ∙ hit 10 _ at _ e
-
-        pub label-0 : bareDot P l ≡ false → first (labelRows P least l at) ≡ record { number = 0; place = 0 }
-        unfolding labelRows
-        label-0 e = clear (labelRows P least l at) (no-7, (no-8, (no-9, (e, tt))))
-
   pub label-clear : first (labelRows P least l at) .number ≡ 0 → Clear (labelRows P least l at)
   unfolding labelRows refusing allOf
   label-clear e = accepted-clear (labelRows P least l at) refl e
