@@ -11,8 +11,8 @@ use lib.Seq.{drop-at, drop-drop, drop-append-le, length-take-le}
 use borrow.Author.Tests.{eq-eqb, ne-eqb}
 use Rattle.lists.specs.Tests.{pick, allOf}
 use Rattle.lists.specs.Front.{written}
-use Rattle.lists.specs.Rows.{Answer, accepted, first, given}
-use Rattle.lists.proofs.Tables.{refusing, accepted-clear, clear, given-all, given-none}
+use Rattle.lists.specs.Rows.{Answer, first, given}
+use Rattle.lists.proofs.Tables.{Clear, refusing, accepted-clear, clear, given-all, given-none}
 use Rattle.normal.specs.Normal.{normalForm}
 use Rattle.rules.specs.Labels.{labels}
 use Rattle.rules.specs.Permits.{Permits}
@@ -63,9 +63,10 @@ told P text = first (asciiRows P text 192)
 abbrev form : Permits → List ℕ → List ℕ
 form P text = asciiForm P (normalForm text)
 
-none-refused : (P : Permits) (text : List ℕ) → told P text .number ≡ 0 → told P text ≡ accepted
+-- every row refuses, so with 0 none of them applies
+pub rows-clear : (P : Permits) (text : List ℕ) → first (asciiRows P text 192) .number ≡ 0 → Clear (asciiRows P text 192)
 unfolding refusing allOf asciiRows textRows nameRows labelRows
-none-refused P text e = clear (asciiRows P text 192) (accepted-clear (asciiRows P text 192) refl e)
+rows-clear P text e = accepted-clear (asciiRows P text 192) refl e
 
 module _ (P : Permits) (text : List ℕ) {before after : List ℕ} {r : Checked} (A : Answers (asciiRows P text 192) text (form P text) before after r) where
   says-number : r .number ≡ told P text .number
@@ -99,7 +100,7 @@ module _ (P : Permits) (text : List ℕ) {before after : List ℕ} {r : Checked}
     accepted-line : r .number ≡ 0 → answerLine id 0 0 (r .class) (form P text) ≡ goodAnswer P id text
     accepted-line e =
         let z : told P text .number ≡ 0 = sym says-number ∙ e in
-        let w : r .place ≡ 0 = says-place ∙ ap (λ (a : Answer). a .place) (none-refused P text z) in
+        let w : r .place ≡ 0 = says-place ∙ ap (λ (a : Answer). a .place) (clear (asciiRows P text 192) (rows-clear P text z)) in
         rw (e, w) at (with-form (form P text) (rw (eq-eqb (told P text .number) 0 z)))
 
     refused-line : (r .number ≡ 0 → ⊥) → answerLine id (r .number) (r .place) (r .class) (0x2D ∷ []) ≡ goodAnswer P id text
