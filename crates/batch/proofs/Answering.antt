@@ -14,7 +14,6 @@ use Rattle.lists.specs.Tests.{pick, firstOf}
 use Rattle.lists.specs.Front.{written}
 use Rattle.lists.specs.Rows.{first}
 use Rattle.lists.proofs.Laws.{both, lt-or-le}
-use Rattle.lists.proofs.Fronts.{untouched}
 use Rattle.lists.proofs.Tables.{passed-over, hit}
 use Rattle.rules.specs.Permits.{Permits}
 use Rattle.rules.specs.Rules.{textRows, verdict}
@@ -24,9 +23,11 @@ use Rattle.batch.specs.declared.fields.Parts.the-variants.{Two, Other}
 use Rattle.batch.specs.Utf8.{decoded}
 use Rattle.batch.specs.Answer.{tab, idOf, nameOf, oneTab, goodId, badLine, answerLine, badAnswer, goodAnswer, answerTo}
 use Rattle.batch.specs.Fields.{partsOf}
-use Rattle.batch.specs.Answers.{roomy, answered, AnswersLine, PutsAt, fieldsAnswer}
+use Rattle.batch.specs.Answers.{Writes, PutsAt, fieldsAnswer}
+use Rattle.batch.specs.Stream.{most}
 use Rattle.batch.proofs.LineFields.{any-first}
-use Rattle.batch.proofs.Pieces.{puts-length, puts-written}
+use Rattle.batch.proofs.Lent.{nothing}
+use Rattle.batch.proofs.Pieces.{puts-stands}
 
 -- ---- a text of more than 256 code points is refused with 3 at 256, whatever it holds
 
@@ -125,15 +126,13 @@ line-fields P line t h e =
 
 -- ---- the call
 
-module _ (P : Permits) (line before : List ℕ) where
-  pub no-room : length before < 256 → AnswersLine P line before before (record { done = false; length = 0 })
-  unfolding roomy answered
+module _ (xs before : List ℕ) where
+  pub no-room : length before < most → Writes xs before before (record { done = false; length = 0 })
   no-room h =
-      let e = lt-leb 256 (length before) h in
-      record { done = sym e; buffer = rw e (sym (untouched before)); length = rw e }
+      let e = lt-leb most (length before) h in
+      record { done = sym e; text = rw e nothing }
 
-  pub in-room : (after : List ℕ) (r : ℕ) → 256 ≤ length before → PutsAt (answerTo P line) before after 0 r → AnswersLine P line before after (record { done = true; length = r })
-  unfolding roomy answered
+  pub in-room : (after : List ℕ) (r : ℕ) → most ≤ length before → PutsAt xs before after 0 r → Writes xs before after (record { done = true; length = r })
   in-room after r h x =
-      let e = le-leb 256 (length before) h in
-      record { done = sym e; buffer = rw e (puts-written x); length = rw e (puts-length x) }
+      let e = le-leb most (length before) h in
+      record { done = sym e; text = rw e (puts-stands x) }

@@ -14,7 +14,7 @@ use Rattle.lists.specs.Tests.{pick}
 use Rattle.lists.specs.Front.{written}
 use Rattle.lists.proofs.Laws.{lt-or-le}
 use Rattle.batch.specs.Answer.{decimalBy, decimal}
-use Rattle.batch.specs.Answers.{PutsAt, frontOf}
+use Rattle.batch.specs.Answers.{Stands, PutsAt, frontOf}
 
 -- one piece more
 pub then : {p q b₀ b₁ b₂ : List ℕ} {n m r : ℕ} → PutsAt p b₀ b₁ n m → PutsAt q b₁ b₂ m r → PutsAt (p ++ q) b₀ b₂ n r
@@ -34,14 +34,12 @@ then {p} {q} {b₀} {b₁} {b₂} {n} {m} {r} x y =
           ∙ ap (λ (l : List ℕ). l ++ drop r b₀) (append-assoc (take n b₀) p q);
     }
 
--- what is put from 0 on is written at the start
-module _ {xs before after : List ℕ} {r : ℕ} (x : PutsAt xs before after 0 r) where
-  pub puts-length : r ≡ length xs
-  puts-length = omega (arith, x .place)
-
-  pub puts-written : after ≡ written xs before
-  unfolding written
-  puts-written = x .whole ∙ ap (λ (k : ℕ). xs ++ drop k before) puts-length
+-- what is put from 0 on stands at the start
+pub puts-stands : {xs before after : List ℕ} {r : ℕ} → PutsAt xs before after 0 r → Stands xs before after r
+unfolding written
+puts-stands {xs} {before} {r = r} x =
+    let n : r ≡ length xs = omega (arith, x .place) in
+    record { count = n; buffer = x .whole ∙ ap (λ (k : ℕ). xs ++ drop k before) n }
 
 -- ---- the loop of `put`, and one byte
 

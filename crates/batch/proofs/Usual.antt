@@ -21,7 +21,7 @@ use Rattle.batch.specs.Stream.{lf}
 use Rattle.batch.specs.Next.{Answered}
 use Rattle.batch.proofs.LineFields.{noId, right-length}
 use Rattle.batch.proofs.OneTab.{Fields, fields-are, first-past}
-use Rattle.batch.proofs.Pieces.{puts-length, puts-written}
+use Rattle.batch.proofs.Pieces.{puts-stands}
 use Rattle.batch.proofs.Answering.{two-parts, fields-good}
 use Rattle.batch.proofs.Reading.{plain}
 
@@ -103,4 +103,4 @@ module _ (s : List ℕ) (at : ℕ) {t e : ℕ} {rest : List ℕ} (et : t ≡ at 
       let is : take (t + 1 + e - at) (drop at s) ≡ lineOf id name =
       ap (take (t + 1 + e - at)) whole ∙ take-at (lineOf id name) (0x0A ∷ drop (suc e) rest) (t + 1 + e - at) long in
       let y = rw (← line-answer id name ei en P (omega (arith, id-long)) (omega (arith, id-long)) (omega (arith, name-long)) d) at x in
-      record { end = omega (arith, first); inside = inside; text = rw is (record { count = puts-length y; buffer = puts-written y }) }
+      record { end = omega (arith, first); inside = inside; text = rw is (puts-stands y) }

@@ -14,7 +14,7 @@ ghost use Prim.Native.Nat.{_+_, _≤_, _<_, _%_, min};
 ghost use lib.ListN.{length};
 ghost use Rattle.rules.specs.Editions.{todayWith};
 ghost use Rattle.batch.specs.Answer.{decimal, letter, answerLine, badAnswer, goodAnswer, answerTo};
-ghost use Rattle.batch.specs.Answers.{AnswersLine, PutsAt, frontOf, fieldsAnswer};
+ghost use Rattle.batch.specs.Answers.{Writes, PutsAt, frontOf, fieldsAnswer};
 ghost use Rattle.batch.specs.Next.{Quick};
 
 const LF: u8 = 0x0A;
@@ -197,7 +197,7 @@ fn put_answer(kanji: &[u32], line: &[u8], out: &mut [u8]) -> usize
 
 // The answer to a line, at the start of out. The table of kanji is lent.
 pub fn answer(kanji: &[u32], line: &[u8], out: &mut [u8]) -> Wrote
-    ensures { λ r. ⌜ AnswersLine (todayWith (now (kanji .entry))) (now (line .entry)) (now (out .entry)) (now (out .exit)) r ⌝ }
+    ensures { λ r. ⌜ Writes (answerTo (todayWith (now (kanji .entry))) (now (line .entry))) (now (out .entry)) (now (out .exit)) r ⌝ }
 {
     if out.len() < MOST {
         return Wrote {
