@@ -22,7 +22,7 @@ const LF: u8 = 0x0A;
 const HYPHEN: u8 = 0x2D;
 
 // Room for the longest answer.
-const MOST: usize = 256;
+pub(crate) const MOST: usize = 256;
 
 // Whether there was room for the longest answer, and how many bytes were written.
 pub struct Wrote {
