@@ -11,7 +11,7 @@ use lib.ListN.{length, take, drop, length-drop, length-take}
 use lib.Seq.{take-all, take-at, length-take-le}
 use borrow.Author.Tests.{lt-ltb, le-ltb, le-leb, lt-leb, ne-eqb, ltb-true}
 use Rattle.lists.specs.Tests.{pick, firstOf}
-use Rattle.lists.specs.Front.{written}
+use Rattle.lists.specs.Front.{written, Puts}
 use Rattle.lists.specs.Rows.{first}
 use Rattle.lists.proofs.Laws.{both, lt-or-le}
 use Rattle.lists.proofs.Tables.{passed-over, hit}
@@ -23,11 +23,10 @@ use Rattle.batch.specs.declared.fields.Parts.the-variants.{Two, Other}
 use Rattle.batch.specs.Utf8.{decoded}
 use Rattle.batch.specs.Answer.{tab, idOf, nameOf, oneTab, goodId, badLine, answerLine, badAnswer, goodAnswer, answerTo}
 use Rattle.batch.specs.Fields.{partsOf}
-use Rattle.batch.specs.Answers.{Writes, PutsAt, fieldsAnswer}
+use Rattle.batch.specs.Answers.{Writes, fieldsAnswer}
 use Rattle.batch.specs.Stream.{most}
 use Rattle.batch.proofs.LineFields.{any-first}
-use Rattle.batch.proofs.Lent.{nothing}
-use Rattle.batch.proofs.Pieces.{puts-stands}
+use Rattle.batch.proofs.Lent.{nothing, puts-stands}
 
 -- ---- a text of more than 256 code points is refused with 3 at 256, whatever it holds
 
@@ -132,7 +131,7 @@ module _ (xs before : List ℕ) where
       let e = lt-leb most (length before) h in
       record { done = sym e; text = rw e nothing }
 
-  pub in-room : (after : List ℕ) (r : ℕ) → most ≤ length before → PutsAt xs before after 0 r → Writes xs before after (record { done = true; length = r })
+  pub in-room : (after : List ℕ) (r : ℕ) → most ≤ length before → Puts xs before after 0 r → Writes xs before after (record { done = true; length = r })
   in-room after r h x =
       let e = le-leb most (length before) h in
       record { done = sym e; text = rw e (puts-stands x) }

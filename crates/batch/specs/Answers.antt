@@ -2,9 +2,9 @@
 use mathlib.Core.Bool.{not, _||_}
 use mathlib.Core.List.{List, [], _∷_, _++_}
 use mathlib.Core.Path.{_≡_}
-use Prim.Native.Nat.{ℕ, _+_, _≤_}
+use Prim.Native.Nat.{ℕ}
 use lib.Dec.{leb}
-use lib.ListN.{length, take, drop}
+use lib.ListN.{length}
 use Rattle.lists.specs.Tests.{pick}
 use Rattle.lists.specs.Front.{written}
 use Rattle.rules.specs.Permits.{Permits}
@@ -24,12 +24,6 @@ pub record Writes (xs before after : List ℕ) (r : Wrote) : Type 0 where
   pub text : Stands (pick (leb most (length before)) xs []) before after (r .length)
 
 -- ---- how the line is put together
-
--- a piece stands from n on, r is past it, and all else is as it was
-pub record PutsAt (piece before after : List ℕ) (n r : ℕ) : Type 0 where
-  pub place : r ≡ n + length piece
-  pub room : r ≤ length before
-  pub whole : after ≡ take n before ++ piece ++ drop r before
 
 -- id, number and place, a tab after each: how an answer line begins
 unfoldable pub frontOf : List ℕ → ℕ → ℕ → List ℕ
