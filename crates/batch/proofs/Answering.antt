@@ -9,11 +9,12 @@ use native.Mathlib.Omega.{arith}
 use lib.Dec.{eqb, ltb}
 use lib.ListN.{length, take, drop, length-drop, length-take}
 use lib.Seq.{take-all, take-at, length-take-le}
-use borrow.Author.Tests.{lt-ltb, le-ltb, le-leb, lt-leb, ne-eqb, ltb-true}
+use borrow.Author.Tests.{lt-ltb, le-ltb, le-leb, lt-leb, ne-eqb}
 use Rattle.lists.specs.Tests.{pick, firstOf}
 use Rattle.lists.specs.Front.{written, Puts}
 use Rattle.lists.specs.Rows.{first}
 use Rattle.lists.proofs.Laws.{both, lt-or-le}
+use Rattle.lists.proofs.Scan.{found-inside}
 use Rattle.lists.proofs.Tables.{passed-over, hit}
 use Rattle.rules.specs.Permits.{Permits}
 use Rattle.rules.specs.Rules.{textRows, verdict}
@@ -25,7 +26,6 @@ use Rattle.batch.specs.Answer.{tab, idOf, nameOf, oneTab, goodId, badLin
 use Rattle.batch.specs.Fields.{partsOf}
 use Rattle.batch.specs.Answers.{Writes, fieldsAnswer}
 use Rattle.batch.specs.Stream.{most}
-use Rattle.batch.proofs.LineFields.{any-first}
 use Rattle.batch.proofs.Lent.{nothing, puts-stands}
 
 -- ---- a text of more than 256 code points is refused with 3 at 256, whatever it holds
@@ -109,7 +109,7 @@ parted line t e = go (oneTab line) refl e
     go : (b : Bool) → oneTab line ≡ b → Two t ≡ pick b (Two (firstOf tab line)) Other → Parted line t
     go true q p =
         let z : t ≡ firstOf tab line = cc in
-        record { one = q; at = z; inside = omega (arith, z, ltb-true (firstOf tab line) (length line) (sym (any-first tab line) ∙ both _ _ q .0)) }
+        record { one = q; at = z; inside = omega (arith, z, found-inside tab line (both _ _ q .0)) }
     go false q p = absurd (let z : _≡_ {A = ℕ} 0 1 = cc in omega arith)
 
 pub line-fields : (P : Permits) (line : List ℕ) (t : ℕ) → length line ≤ 1024 → Two t ≡ partsOf line
