@@ -17,6 +17,7 @@ use Rattle.lists.proofs.Laws.{clash, any-append, all-none}
 use Rattle.lists.proofs.Scan.{first-past}
 use Rattle.rules.specs.Permits.{Permits}
 use Rattle.batch.specs.Utf8.{Text, decoded}
+use Rattle.batch.specs.Decodes.{plain}
 use Rattle.batch.specs.Answer.{tab, idByte, goodId, goodAnswer, answerTo}
 use Rattle.batch.specs.Stream.{lf}
 use Rattle.batch.specs.Next.{Answered}
@@ -24,7 +25,6 @@ use Rattle.batch.proofs.LineFields.{noId, right-length}
 use Rattle.batch.proofs.OneTab.{Fields, fields-are}
 use Rattle.batch.proofs.Lent.{puts-stands}
 use Rattle.batch.proofs.Answering.{two-parts, fields-good}
-use Rattle.batch.proofs.Reading.{plain}
 
 id-before : (xs : List ℕ) → allOf idByte (take (firstOf noId xs) xs) ≡ true
 unfolding allOf firstOf
