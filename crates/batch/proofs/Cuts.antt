@@ -1,40 +1,21 @@
 -- Bytes with no LF among them only lengthen the line at hand, so a piece is such bytes, or such bytes, an LF and a rest.
 -- Assumes nothing.
 use mathlib.Core.Path.{_≡_, refl, sym, ap, _∙_}
-use mathlib.Core.Bool.{Bool, true, false}
+use mathlib.Core.Bool.{Bool, false}
 use mathlib.Core.List.{List, [], _∷_, _++_, append-nil}
 use Prim.Native.Nat.{ℕ, suc, _+_, _-_, _≤_, _<_}
 use native.Mathlib.Omega.{arith}
 use lib.Dec.{leb, ltb}
-use lib.ListN.{length, take, drop, set, getD, length-append}
-use lib.Seq.{append-snoc, split-at, take-at, length-take-le}
-use borrow.Author.Tests.{eqb-true, le-ltb}
+use lib.ListN.{length, take, drop, set, length-append}
+use lib.Seq.{append-snoc, take-at, length-take-le}
+use borrow.Author.Tests.{eqb-true}
 use Rattle.lists.specs.Tests.{pick, anyOf, firstOf}
 use Rattle.lists.proofs.Laws.{neither}
+use Rattle.lists.proofs.Scan.{not-found, none-before, cut-first}
 use Rattle.batch.specs.declared.stream.Line.{Line}
 use Rattle.batch.specs.Lines.{linesFrom}
 use Rattle.batch.specs.Stream.{lf, fresh, pushed, pushedAll, after, most, closed, wrote, usedFrom, used}
-use Rattle.batch.proofs.LineFields.{any-first}
 use Rattle.batch.proofs.Whole.{by}
-
--- ---- the first entry of which a test holds
-
-module _ (f : ℕ → Bool) where
-  none-found : (s : List ℕ) → length s ≤ firstOf f s → anyOf f s ≡ false
-  none-found s h = any-first f s ∙ le-ltb (firstOf f s) (length s) h
-
-  none-before : (s : List ℕ) → anyOf f (take (firstOf f s) s) ≡ false
-  unfolding anyOf firstOf
-  none-before [] = refl
-  none-before (b ∷ s) =
-      by (λ (x : Bool). anyOf f (take (pick x 0 (suc (firstOf f s))) (b ∷ s)) ≡ false) (f b) (λ e. refl) (λ e. rw e (none-before s))
-
-  holds-there : (s : List ℕ) → firstOf f s < length s → f (getD s (firstOf f s) 0) ≡ true
-  unfolding firstOf
-  holds-there [] h = absurd (omega arith)
-  holds-there (b ∷ s) h =
-      by (λ (x : Bool). pick x 0 (suc (firstOf f s)) < suc (length s) → f (getD (b ∷ s) (pick x 0 (suc (firstOf f s))) 0) ≡ true) (f b)
-      (λ e k. e) (λ e k. holds-there s (omega arith)) h
 
 -- ---- bytes with no LF, and what comes after them
 
@@ -113,18 +94,18 @@ after-alike l m (b ∷ s) h g =
 module _ (l : Line) (t : List ℕ) (h : length t ≤ firstOf lf t) where
   pub none-after : after l t ≡ pushedAll l t
   unfolding after
-  none-after = ap (after l) (sym (append-nil t)) ∙ after-plain l t (none-found lf t h) []
+  none-after = ap (after l) (sym (append-nil t)) ∙ after-plain l t (not-found lf t h) []
 
   module _ (answer : List ℕ → List ℕ) (bad : List ℕ) where
     pub none-wrote : wrote answer bad l t ≡ []
     unfolding wrote
-    none-wrote = ap (wrote answer bad l) (sym (append-nil t)) ∙ wrote-plain answer bad l t (none-found lf t h) []
+    none-wrote = ap (wrote answer bad l) (sym (append-nil t)) ∙ wrote-plain answer bad l t (not-found lf t h) []
 
     pub none-used : (room : ℕ) → usedFrom answer bad l t room ≡ length t
     unfolding usedFrom
     none-used room =
         ap (λ (x : List ℕ). usedFrom answer bad l x room) (sym (append-nil t))
-        ∙ used-plain answer bad l t (none-found lf t h) [] room ∙ omega arith
+        ∙ used-plain answer bad l t (not-found lf t h) [] room ∙ omega arith
 
 -- ---- a piece with an LF: the line up to it, and the rest
 
@@ -137,7 +118,7 @@ module _ (l : Line) (t : List ℕ) (h : firstOf lf t < length t) where
 
   parts : t ≡ p ++ 0x0A ∷ drop (suc u) t
   unfolding lf
-  parts = split-at t u 0 h ∙ ap (λ (b : ℕ). p ++ b ∷ drop (suc u) t) (eqb-true _ _ (holds-there lf t h))
+  parts = cut-first lf 0x0A (λ b e. eqb-true b 0x0A e) t h
 
   len : length p ≡ u
   len = length-take-le u t (omega arith)

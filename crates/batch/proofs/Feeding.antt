@@ -17,7 +17,8 @@ use Rattle.batch.specs.declared.stream.Fed.{Fed}
 use Rattle.batch.specs.declared.stream.Line.{Line}
 use Rattle.batch.specs.declared.stream.Scanned.{Scanned}
 use Rattle.batch.specs.Stream.{lf, fresh, pushedAll, after, most, closed, wrote, ended, used}
-use Rattle.batch.specs.Feed.{Stands, Writes, Scans, Feeds, restOf, Finishes}
+use Rattle.batch.specs.Answers.{Stands, Writes}
+use Rattle.batch.specs.Feed.{Scans, Feeds, restOf, Finishes}
 use Rattle.batch.proofs.Whole.{by, holds-none, holds-fresh, after-append, wrote-append, closed-all}
 use Rattle.batch.proofs.Cuts.{Alike, wrote-alike, used-alike, after-alike, line-after, line-wrote, line-used, none-after, none-wrote, none-used}
 use Rattle.batch.proofs.Lent.{nothing, fits, then, lent, lent-same, tail-part}

@@ -10,7 +10,6 @@ use lib.Dec.{leb}
 use lib.ListN.{length, take, drop, take-append-drop}
 use borrow.Author.Tests.{le-leb}
 use Rattle.lists.specs.Tests.{pick}
-use Rattle.lists.specs.Front.{written}
 use Rattle.rules.specs.Editions.{todayWith}
 use Rattle.batch.specs.declared.stream.Fed.{Fed}
 use Rattle.batch.specs.declared.stream.Finished.{Finished}
@@ -18,15 +17,12 @@ use Rattle.batch.specs.declared.stream.Line.{Line}
 use Rattle.batch.specs.Answer.{answerTo, badAnswer}
 use Rattle.batch.specs.Lines.{batch}
 use Rattle.batch.specs.Stream.{lf, fresh, pushed, after, most, closed, wrote, ended, usedFrom, used}
-use Rattle.batch.specs.Feed.{Stands, Feeds, Finishes}
+use Rattle.batch.specs.Feed.{Feeds, Finishes}
 use Rattle.batch.proofs.Whole.{by, after-append, wrote-append, whole}
-use Rattle.batch.proofs.Lent.{at-front}
-use Rattle.batch.proofs.Asked.{too-long}
+use Rattle.batch.proofs.Lent.{at-front, stands-one}
+use Rattle.batch.proofs.Answering.{long-line}
 
 -- ---- two answers that meet a contract are one, the buffers too
-
-stands-one : {xs ys before a b : List ℕ} {m n : ℕ} → xs ≡ ys → Stands xs before a m → Stands ys before b n → (a ≡ b) × (m ≡ n)
-stands-one {before = before} e p q = (p .buffer ∙ ap (λ (xs : List ℕ). written xs before) e ∙ sym (q .buffer), p .count ∙ ap length e ∙ sym (q .count))
 
 module _ {answer : List ℕ → List ℕ} {bad : List ℕ} {l : Line} {before a b : List ℕ} where
   pub feeds-one : {s : List ℕ} {r q : Fed} → Feeds answer bad l s before a r → Feeds answer bad l s before b q → (a ≡ b) × (r ≡ q)
@@ -102,4 +98,4 @@ again l s u = ap (after l) (sym (take-append-drop u s)) ∙ after-append l (take
 pub batch-of : (table : List ℕ) {i w : List ℕ} {l : Line} {before after′ : List ℕ} {r : Finished} → Session (answerTo (todayWith table)) badAnswer i w l
     → Finishes (answerTo (todayWith table)) badAnswer l before after′ r → r .done ≡ true
     → w ++ take (r .wrote) after′ ≡ batch (answerTo (todayWith table)) i
-batch-of table = session-is-batch (answerTo (todayWith table)) badAnswer (too-long (todayWith table))
+batch-of table = session-is-batch (answerTo (todayWith table)) badAnswer (long-line (todayWith table))

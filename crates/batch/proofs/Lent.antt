@@ -6,12 +6,23 @@ use Prim.Native.Nat.{ℕ, _+_, _-_, _≤_}
 use native.Mathlib.Omega.{arith}
 use lib.ListN.{length, take, drop, length-append, length-drop, drop-of-length-le, take-append-drop}
 use lib.Seq.{take-all, drop-drop}
-use Rattle.lists.specs.Front.{written}
+use Rattle.lists.specs.Front.{written, Puts}
 use Rattle.lists.proofs.Fronts.{untouched, front, rest}
-use Rattle.batch.specs.Feed.{Stands}
+use Rattle.batch.specs.Answers.{Stands}
 
 pub nothing : {before : List ℕ} → Stands [] before before 0
 nothing {before} = record { count = refl; buffer = sym (untouched before) }
+
+-- what stands decides the buffer and the length
+pub stands-one : {xs ys before a b : List ℕ} {m n : ℕ} → xs ≡ ys → Stands xs before a m → Stands ys before b n → (a ≡ b) × (m ≡ n)
+stands-one {before = before} e p q = (p .buffer ∙ ap (λ (xs : List ℕ). written xs before) e ∙ sym (q .buffer), p .count ∙ ap length e ∙ sym (q .count))
+
+-- what is put from 0 on stands at the start
+pub puts-stands : {xs before after : List ℕ} {r : ℕ} → Puts xs before after 0 r → Stands xs before after r
+unfolding written
+puts-stands {xs} {before} {r = r} x =
+    let n : r ≡ length xs = omega (arith, x .place) in
+    record { count = n; buffer = x .buffer ∙ ap (λ (k : ℕ). xs ++ drop k before) n }
 
 module _ {xs before after : List ℕ} {n : ℕ} (p : Stands xs before after n) where
   pub fits : n ≤ length after

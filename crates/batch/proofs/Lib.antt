@@ -9,7 +9,6 @@ mod Answering
 mod Reading
 mod Usual
 pub mod Whole
-mod Asked
 pub mod Cuts
 pub mod Lent
 mod Turns

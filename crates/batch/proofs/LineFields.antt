@@ -1,18 +1,18 @@
 -- The fields of a line, on plain lists: a tab is there exactly where the first one stands before the end, and so of the name; what
 -- makes a byte one of an id.
 -- Assumes nothing.
-use mathlib.Core.Path.{_≡_, refl, sym, ap, _∙_}
+use mathlib.Core.Path.{_≡_, sym, ap, _∙_}
 use mathlib.Core.Bool.{Bool, true, false, not, _||_}
-use mathlib.Core.List.{List, [], _∷_}
-use mathlib.Core.Logic.{⊎-elim}
+use mathlib.Core.List.{List}
 use Prim.Native.Nat.{ℕ, suc, _+_, _-_, _≤_, _<_}
 use native.Mathlib.Numerals.{add-one}
 use native.Mathlib.Omega.{arith}
-use lib.Dec.{eqb, ltb}
+use lib.Dec.{eqb}
 use lib.ListN.{length, length-drop}
-use borrow.Author.Tests.{lt-ltb, le-ltb, eq-eqb, ne-eqb}
-use Rattle.lists.specs.Tests.{pick, within, anyOf, allOf, firstOf}
-use Rattle.lists.proofs.Laws.{both, inside, outside, in-range, or-left, or-right, lt-or-le}
+use borrow.Author.Tests.{eq-eqb, ne-eqb}
+use Rattle.lists.specs.Tests.{within, anyOf, allOf, firstOf}
+use Rattle.lists.proofs.Laws.{both, inside, outside, in-range, or-left, or-right}
+use Rattle.lists.proofs.Scan.{found, not-found}
 use Rattle.batch.specs.declared.fields.Stretch.{Stretch}
 use Rattle.batch.specs.declared.fields.Parts.the-variants.{Two, Other}
 use Rattle.batch.specs.Answer.{tab, nameOf, oneTab, idByte, goodId}
@@ -20,27 +20,13 @@ use Rattle.batch.specs.Fields.{fieldAt, partsOf}
 
 -- ---- exactly one tab
 
-below-suc : (a b : ℕ) → ltb a b ≡ ltb (suc a) (suc b)
-below-suc a b =
-    ⊎-elim (λ h. lt-ltb a b h ∙ sym (lt-ltb (suc a) (suc b) (omega arith))) (λ h. le-ltb a b h ∙ sym (le-ltb (suc a) (suc b) (omega arith)))
-    (lt-or-le a b)
-
-pub any-first : (f : ℕ → Bool) (xs : List ℕ) → anyOf f xs ≡ ltb (firstOf f xs) (length xs)
-unfolding anyOf firstOf
-any-first f [] = refl
-any-first f (x ∷ xs) = go (f x) (any-first f xs)
-  where
-    go : (b : Bool) → anyOf f xs ≡ ltb (firstOf f xs) (length xs) → b || anyOf f xs ≡ ltb (pick b 0 (suc (firstOf f xs))) (suc (length xs))
-    go true e = sym (lt-ltb 0 (suc (length xs)) (omega arith))
-    go false e = e ∙ below-suc (firstOf f xs) (length xs)
-
 module _ (line : List ℕ) (f g : Stretch) (ef : f ≡ fieldAt line 0) where
   tab-at : f .end ≡ firstOf tab line
   tab-at = omega (arith, ap (λ (x : Stretch). x .end) ef)
 
   pub no-tab : length line ≤ f .end → Other ≡ partsOf line
   unfolding partsOf oneTab
-  no-tab h = simp (any-first tab line, le-ltb (firstOf tab line) (length line) (omega (arith, tab-at)))
+  no-tab h = simp (not-found tab line (omega (arith, tab-at)))
 
   module _ (h : f .end < length line) (eg : g ≡ fieldAt line (f .end + 1)) where
     name-ends : g .end ≡ suc (firstOf tab line) + firstOf tab (nameOf line)
@@ -52,16 +38,15 @@ module _ (line : List ℕ) (f g : Stretch) (ef : f ≡ fieldAt line 0) where
     name-length = length-drop (suc (firstOf tab line)) line
 
     some-tab : anyOf tab line ≡ true
-    some-tab = any-first tab line ∙ lt-ltb (firstOf tab line) (length line) (omega (arith, tab-at))
+    some-tab = found tab line (omega (arith, tab-at))
 
     pub two-tabs : g .end < length line → Other ≡ partsOf line
     unfolding partsOf oneTab
-    two-tabs k = simp (some-tab, any-first tab (nameOf line), lt-ltb (firstOf tab (nameOf line)) (length (nameOf line)) (omega (arith, name-ends, name-length)))
+    two-tabs k = simp (some-tab, found tab (nameOf line) (omega (arith, name-ends, name-length)))
 
     pub one-tab : length line ≤ g .end → Two (f .end) ≡ partsOf line
     unfolding partsOf oneTab
-    one-tab k =
-        simp (some-tab, any-first tab (nameOf line), le-ltb (firstOf tab (nameOf line)) (length (nameOf line)) (omega (arith, name-ends, name-length))) (ap Two tab-at)
+    one-tab k = simp (some-tab, not-found tab (nameOf line) (omega (arith, name-ends, name-length))) (ap Two tab-at)
 
 -- ---- a byte of an id
 

@@ -1,34 +1,35 @@
 -- No answer is longer than 256 bytes: an id has at most 32, number and place three digits each, and the ASCII form of an accepted
 -- name is two or three labels of at most 63 octets each.
 -- Assumes nothing.
-use mathlib.Core.Path.{_≡_, refl, sym}
+use mathlib.Core.Path.{_≡_, refl}
 use mathlib.Core.Bool.{Bool, true, false, not}
 use mathlib.Core.List.{List, [], _∷_, _++_, map}
 use Prim.Native.Nat.{ℕ, _+_, _*_, _≤_}
 use native.Mathlib.Omega.{arith}
 use lib.Dec.{eqb, ltb}
-use lib.ListN.{length, replicate, length-append}
+use lib.ListN.{length, length-append}
 use borrow.Author.Tests.{eqb-true, not-false}
 use Rattle.lists.specs.Tests.{pick, allOf, anyOf}
 use Rattle.lists.specs.Rows.{Row, first}
 use Rattle.lists.proofs.Laws.{both, neither}
-use Rattle.lists.proofs.Tables.{Clear, refusing, accepted-clear}
+use Rattle.lists.proofs.Tables.{Clear}
 use Rattle.normal.specs.Normal.{normalForm}
 use Rattle.rules.specs.Labels.{labels, join}
 use Rattle.rules.specs.Permits.{Permits}
-use Rattle.rules.specs.Rules.{isJapanese, labelRows, nameRows, textRows, verdict}
+use Rattle.rules.specs.Rules.{textRows, verdict}
 use Rattle.rules.specs.Editions.{todayWith}
 use Rattle.rules.specs.declared.Class.{Class}
 use Rattle.rules.specs.declared.Class.the-variants.{None}
 use Rattle.rules.specs.declared.Verdict.{Verdict}
 use Rattle.names.specs.Calls.{asciiLabel, asciiForm, uncoded, asciiRows}
 use Rattle.names.specs.Steps.{writable}
-use Rattle.names.proofs.Joining.{plain-fits, coded-fits, coded-yes}
+use Rattle.names.proofs.Joining.{label-size}
 use Rattle.names.proofs.Enough.{accepted-writable}
 use Rattle.batch.specs.Utf8.{decoded}
 use Rattle.batch.specs.Answer.{idOf, nameOf, oneTab, goodId, badLine, answerLine, badAnswer, goodAnswer, answerTo}
 use Rattle.batch.proofs.LineFields.{id-length}
 use Rattle.batch.proofs.Pieces.{decimal-length}
+use Rattle.batch.proofs.Placing.{rows-clear}
 
 line-length : (id : List ℕ) (number place : ℕ) (class : Class) (form : List ℕ) → length (answerLine id number place class form) ≤ length id + length form + 12
 unfolding answerLine
@@ -47,23 +48,6 @@ good-id line e =
 
 -- ---- the ASCII form of an accepted name: two or three labels, each of at most 63 octets
 
--- what the coder takes has room in the 63 octets that it is lent
-coded-short : (P : Permits) (l : List ℕ) → isJapanese P l ≡ true → uncoded P l ≡ false → length (asciiLabel P l) ≤ 63
-unfolding uncoded asciiLabel
-coded-short P l j u =
-    let z = eqb-true _ 0 (not-false _ (rw j at u)) in
-    let fits = coded-fits l (replicate 63 0) _ 0 (omega arith) (record { answer = refl; buffer = refl }) z in
-    let put = coded-yes l (replicate 63 0) _ 0 (omega arith) (record { answer = refl; buffer = refl }) z in
-    rw j (omega (arith, fits, put .put refl .place))
-
-label-short : (P : Permits) (l : List ℕ) → writable P l ≡ true → uncoded P l ≡ false → length (asciiLabel P l) ≤ 63
-unfolding asciiLabel
-label-short P l w u = go (isJapanese P l) refl
-  where
-    go : (j : Bool) → j ≡ isJapanese P l → length (asciiLabel P l) ≤ 63
-    go true e = coded-short P l (sym e) u
-    go false e = rw (← e) (plain-fits P l e refl w .1)
-
 joined-short : (P : Permits) (ls : List (List ℕ)) → allOf (writable P) ls ≡ true → anyOf (uncoded P) ls ≡ false
     → length (join (map (asciiLabel P) ls)) ≤ 64 * length ls
 unfolding allOf anyOf join
@@ -71,11 +55,11 @@ joined-short P [] w u = omega arith
 joined-short P (l ∷ []) w u =
     let p = both (writable P l) true w in
     let q = neither (uncoded P l) false u in
-    omega (arith, label-short P l (p .0) (q .0))
+    omega (arith, label-size P l (p .0) (q .0))
 joined-short P (l ∷ m ∷ ls) w u =
     let p = both (writable P l) (allOf (writable P) (m ∷ ls)) w in
     let q = neither (uncoded P l) (anyOf (uncoded P) (m ∷ ls)) u in
-    omega (arith, label-short P l (p .0) (q .0), joined-short P (m ∷ ls) (p .1) (q .1), length-append (asciiLabel P l) (0x2E ∷ join (map (asciiLabel P) (m ∷ ls))))
+    omega (arith, label-size P l (p .0) (q .0), joined-short P (m ∷ ls) (p .1) (q .1), length-append (asciiLabel P l) (0x2E ∷ join (map (asciiLabel P) (m ∷ ls))))
 
 clear-front : (rs ss : List Row) → Clear (rs ++ ss) → Clear rs
 clear-front [] ss c = tt
@@ -85,15 +69,11 @@ clear-back : (rs ss : List Row) → Clear (rs ++ ss) → Clear ss
 clear-back [] ss c = c
 clear-back (r ∷ rs) ss c = clear-back rs ss (c .1)
 
-all-refuse : (P : Permits) (text : List ℕ) → refusing (asciiRows P text 192) ≡ true
-unfolding refusing allOf asciiRows textRows nameRows labelRows
-all-refuse P text = refl
-
 form-short : (table text : List ℕ) → first (asciiRows (todayWith table) text 192) .number ≡ 0 → length (asciiForm (todayWith table) (normalForm text)) ≤ 192
 unfolding asciiRows asciiForm
 form-short table text e =
     let P : Permits = todayWith table in
-    let c = accepted-clear (asciiRows P text 192) (all-refuse P text) e in
+    let c = rows-clear P text e in
     let w = accepted-writable table text (clear-front (textRows P text) _ (c .1)) in
     let k = joined-short P (labels (normalForm text)) (w .fit) (clear-back (textRows P text) _ (c .1) .0) in
     omega (arith, k, w .few)

@@ -1,61 +1,17 @@
--- Pieces that are put one after the other stand together: the next is put where the last one ended, and touches nothing before it.
+-- The pieces of an answer line: a number has one to three digits, each of which is the last digit of a quotient.
 -- Assumes nothing.
-use mathlib.Core.Path.{_≡_, refl, sym, ap, _∙_}
-use mathlib.Core.List.{List, [], _∷_, _++_, append-assoc}
+use mathlib.Core.Path.{_≡_, ap}
+use mathlib.Core.List.{List, [], _∷_, _++_}
 use mathlib.Core.Logic.{⊎-elim}
-use Prim.Native.Nat.{ℕ, suc, _+_, _-_, _/_, _%_, _≤_, _<_}
-use native.Mathlib.Numerals.{add-one}
+use Prim.Native.Nat.{ℕ, _+_, _/_, _%_, _≤_, _<_}
 use native.Mathlib.Omega.{arith}
 use lib.Dec.{ltb}
-use lib.ListN.{length, take, drop, set, getD, length-append, length-drop}
-use lib.Seq.{paste, paste-suc, take-all, take-at, drop-at, drop-drop, set-split, append-snoc, length-take-le}
+use lib.ListN.{length, length-append}
 use borrow.Author.Tests.{lt-ltb, le-ltb}
 use Rattle.lists.specs.Tests.{pick}
-use Rattle.lists.specs.Front.{written}
 use Rattle.lists.proofs.Laws.{lt-or-le}
 use Rattle.batch.specs.Answer.{decimalBy, decimal}
-use Rattle.batch.specs.Answers.{PutsAt, frontOf}
-
--- one piece more
-pub then : {p q b₀ b₁ b₂ : List ℕ} {n m r : ℕ} → PutsAt p b₀ b₁ n m → PutsAt q b₁ b₂ m r → PutsAt (p ++ q) b₀ b₂ n r
-then {p} {q} {b₀} {b₁} {b₂} {n} {m} {r} x y =
-    let head : length (take n b₀ ++ p) ≡ m = length-append (take n b₀) p ∙ omega (arith, length-take-le n b₀ (omega (arith, x .place, x .room)), x .place) in
-    let front : take m b₁ ≡ take n b₀ ++ p = ap (take m) (x .whole) ∙ take-at (take n b₀ ++ p) (drop m b₀) m head in
-    let back : drop m b₁ ≡ drop m b₀ = ap (drop m) (x .whole) ∙ drop-at (take n b₀ ++ p) (drop m b₀) m head in
-    let rest : drop (m + length q) b₁ ≡ drop (m + length q) b₀ =
-    sym (drop-drop (length q) m b₁) ∙ ap (drop (length q)) back ∙ drop-drop (length q) m b₀ in
-    let same : length b₁ ≡ length b₀ = ap length (x .whole) ∙ length-append (take n b₀ ++ p) (drop m b₀) ∙ omega (arith, head, length-drop m b₀, x .room) in
-    record {
-      place = omega (arith, length-append p q, x .place, y .place);
-      room = omega (arith, y .room, same);
-      whole =
-          y .whole ∙ ap (λ (l : List ℕ). l ++ q ++ drop r b₁) front ∙ ap (λ (k : ℕ). take n b₀ ++ p ++ q ++ drop k b₁) (y .place)
-          ∙ ap (λ (l : List ℕ). take n b₀ ++ p ++ q ++ l) rest ∙ ap (λ (k : ℕ). take n b₀ ++ p ++ q ++ drop k b₀) (sym (y .place))
-          ∙ ap (λ (l : List ℕ). l ++ drop r b₀) (append-assoc (take n b₀) p q);
-    }
-
--- what is put from 0 on is written at the start
-module _ {xs before after : List ℕ} {r : ℕ} (x : PutsAt xs before after 0 r) where
-  pub puts-length : r ≡ length xs
-  puts-length = omega (arith, x .place)
-
-  pub puts-written : after ≡ written xs before
-  unfolding written
-  puts-written = x .whole ∙ ap (λ (k : ℕ). xs ++ drop k before) puts-length
-
--- ---- the loop of `put`, and one byte
-
-pub turn : (out₀ out s : List ℕ) (n i : ℕ) → n + length s ≤ length out₀ → i < length s → out ≡ paste out₀ n s i
-    → set out (n + i) (getD s i 0) ≡ paste out₀ n s (i + 1)
-turn out₀ out s n i h g e = rw (e, add-one i) (paste-suc out₀ n s i 0 (omega arith) g)
-
-pub put-all : (out₀ out s : List ℕ) (n i : ℕ) → n + length s ≤ length out₀ → i ≤ length s → length s ≤ i → out ≡ paste out₀ n s i → PutsAt s out₀ out n (n + i)
-put-all out₀ out s n i r h g e =
-    record { place = omega arith; room = omega arith; whole = e ∙ ap (λ (l : List ℕ). take n out₀ ++ l ++ drop (n + i) out₀) (take-all i s g) }
-
-pub put-one : (out : List ℕ) (n b : ℕ) → n < length out → PutsAt (b ∷ []) out (set out n b) n (n + 1)
-put-one out n b h =
-    record { place = refl; room = omega arith; whole = rw add-one (set-split out n b h ∙ sym (append-snoc (take n out) b (drop (suc n) out))) }
+use Rattle.batch.specs.Answers.{frontOf}
 
 -- ---- a number by its digits, each of which is the last digit of a quotient
 

@@ -10,9 +10,10 @@ use lib.ListN.{length, take, drop, length-append, length-drop, take-append-drop}
 use lib.Seq.{drop-at, drop-drop, drop-append-le, length-take-le}
 use borrow.Author.Tests.{eq-eqb, ne-eqb}
 use Rattle.lists.specs.Tests.{pick, allOf}
-use Rattle.lists.specs.Front.{written}
-use Rattle.lists.specs.Rows.{Answer, accepted, first, given}
-use Rattle.lists.proofs.Tables.{refusing, accepted-clear, clear, given-all, given-none}
+use Rattle.lists.specs.Front.{written, Puts}
+use Rattle.lists.specs.Rows.{Answer, first, given}
+use Rattle.lists.proofs.Pieces.{then}
+use Rattle.lists.proofs.Tables.{Clear, refusing, accepted-clear, clear, given-all, given-none}
 use Rattle.normal.specs.Normal.{normalForm}
 use Rattle.rules.specs.Labels.{labels}
 use Rattle.rules.specs.Permits.{Permits}
@@ -21,14 +22,13 @@ use Rattle.rules.specs.declared.Verdict.{Verdict}
 use Rattle.names.specs.Calls.{checked, Answers, asciiForm, asciiRows, AsciiForms}
 use Rattle.names.specs.declared.Checked.{Checked}
 use Rattle.batch.specs.Answer.{letter, decimal, decimalBy, answerLine, goodAnswer}
-use Rattle.batch.specs.Answers.{PutsAt, frontOf}
-use Rattle.batch.proofs.Pieces.{then}
+use Rattle.batch.specs.Answers.{frontOf}
 
 -- ---- a piece in the middle
 
 -- what is written to a lent part stands where the part begins
 put-lent : (o k : ℕ) (out after xs : List ℕ) → o + k ≤ length out → length xs ≤ k → after ≡ written xs (take k (drop o out))
-    → PutsAt xs out (take o out ++ (after ++ drop k (drop o out))) o (o + length xs)
+    → Puts xs out (take o out ++ (after ++ drop k (drop o out))) o (o + length xs)
 unfolding written
 put-lent o k out after xs h g e =
     let d : List ℕ = drop o out in
@@ -38,21 +38,21 @@ put-lent o k out after xs h g e =
     record {
       place = refl;
       room = omega arith;
-      whole =
+      buffer =
           ap (λ (l : List ℕ). take o out ++ (l ++ drop k d)) e
           ∙ ap (λ (l : List ℕ). take o out ++ l) (append-assoc xs (drop (length xs) (take k d)) (drop k d) ∙ ap (λ (l : List ℕ). xs ++ l) back)
           ∙ sym (append-assoc (take o out) xs (drop (o + length xs) out));
     }
 
 -- and a piece is put ahead of it
-ahead : {p q b₀ b₁ b₂ : List ℕ} {m r : ℕ} → PutsAt q b₀ b₁ m r → PutsAt p b₁ b₂ 0 m → PutsAt (p ++ q) b₀ b₂ 0 r
+ahead : {p q b₀ b₁ b₂ : List ℕ} {m r : ℕ} → Puts q b₀ b₁ m r → Puts p b₁ b₂ 0 m → Puts (p ++ q) b₀ b₂ 0 r
 ahead {p} {q} {b₀} {b₁} {b₂} {m} {r} x y =
     let head : length (take m b₀) ≡ m = length-take-le m b₀ (omega (arith, x .place, x .room)) in
-    let back : drop m b₁ ≡ q ++ drop r b₀ = ap (drop m) (x .whole ∙ append-assoc (take m b₀) q (drop r b₀)) ∙ drop-at (take m b₀) (q ++ drop r b₀) m head in
+    let back : drop m b₁ ≡ q ++ drop r b₀ = ap (drop m) (x .buffer ∙ append-assoc (take m b₀) q (drop r b₀)) ∙ drop-at (take m b₀) (q ++ drop r b₀) m head in
     record {
       place = omega (arith, length-append p q, x .place, y .place);
       room = x .room;
-      whole = y .whole ∙ ap (λ (l : List ℕ). p ++ l) back ∙ sym (append-assoc p q (drop r b₀));
+      buffer = y .buffer ∙ ap (λ (l : List ℕ). p ++ l) back ∙ sym (append-assoc p q (drop r b₀));
     }
 
 -- ---- what the call says
@@ -63,9 +63,10 @@ told P text = first (asciiRows P text 192)
 abbrev form : Permits → List ℕ → List ℕ
 form P text = asciiForm P (normalForm text)
 
-none-refused : (P : Permits) (text : List ℕ) → told P text .number ≡ 0 → told P text ≡ accepted
+-- every row refuses, so with 0 none of them applies
+pub rows-clear : (P : Permits) (text : List ℕ) → first (asciiRows P text 192) .number ≡ 0 → Clear (asciiRows P text 192)
 unfolding refusing allOf asciiRows textRows nameRows labelRows
-none-refused P text e = clear (asciiRows P text 192) (accepted-clear (asciiRows P text 192) refl e)
+rows-clear P text e = accepted-clear (asciiRows P text 192) refl e
 
 module _ (P : Permits) (text : List ℕ) {before after : List ℕ} {r : Checked} (A : Answers (asciiRows P text 192) text (form P text) before after r) where
   says-number : r .number ≡ told P text .number
@@ -99,7 +100,7 @@ module _ (P : Permits) (text : List ℕ) {before after : List ℕ} {r : Checked}
     accepted-line : r .number ≡ 0 → answerLine id 0 0 (r .class) (form P text) ≡ goodAnswer P id text
     accepted-line e =
         let z : told P text .number ≡ 0 = sym says-number ∙ e in
-        let w : r .place ≡ 0 = says-place ∙ ap (λ (a : Answer). a .place) (none-refused P text z) in
+        let w : r .place ≡ 0 = says-place ∙ ap (λ (a : Answer). a .place) (clear (asciiRows P text 192) (rows-clear P text z)) in
         rw (e, w) at (with-form (form P text) (rw (eq-eqb (told P text .number) 0 z)))
 
     refused-line : (r .number ≡ 0 → ⊥) → answerLine id (r .number) (r .place) (r .class) (0x2D ∷ []) ≡ goodAnswer P id text
@@ -138,20 +139,20 @@ module _ (P : Permits) (id text out : List ℕ) {after : List ℕ} {r : Checked}
   pub form-fits : r .length ≤ 192
   form-fits = omega (arith, room, had-room P text said same)
 
-  pub accepted-puts : r .number ≡ 0 → {b₁ b₂ b₃ b₄ : List ℕ} {l i j c n : ℕ} → l ≡ letter (r .class) → PutsAt (frontOf id 0 0) back b₁ 0 i → PutsAt (l ∷ []) b₁ b₂ i j
-      → PutsAt (0x09 ∷ []) b₂ b₃ j c → PutsAt (0x0A ∷ []) b₃ b₄ (c + r .length) n → PutsAt (goodAnswer P id text) out b₄ 0 n
+  pub accepted-puts : r .number ≡ 0 → {b₁ b₂ b₃ b₄ : List ℕ} {l i j c n : ℕ} → l ≡ letter (r .class) → Puts (frontOf id 0 0) back b₁ 0 i → Puts (l ∷ []) b₁ b₂ i j
+      → Puts (0x09 ∷ []) b₂ b₃ j c → Puts (0x0A ∷ []) b₃ b₄ (c + r .length) n → Puts (goodAnswer P id text) out b₄ 0 n
   unfolding answerLine frontOf
   accepted-puts z {l = l} {c = c} el x y w v =
       let f : List ℕ = form P text in
       let all : given (told P text) f ≡ f = given-all (told P text) f (sym (says-number P text said) ∙ z) in
       let long : r .length ≡ length f = says-length P text said ∙ ap length all in
       let at : c ≡ start = omega (arith, front-zero id, x .place, y .place, w .place) in
-      let placed : PutsAt f out back c (c + r .length) =
+      let placed : Puts f out back c (c + r .length) =
       rw (long, at) (put-lent start k out after f (omega arith) (omega (arith, form-fits, long)) (said .buffer ∙ ap (λ (s : List ℕ). written s (take k (drop start out))) all)) in
       rw (← accepted-line P text said id z, ← el) (then (ahead placed (then (then x y) w)) v)
 
-  pub refused-puts : (r .number ≡ 0 → ⊥) → {b : List ℕ} {n : ℕ} → PutsAt (answerLine id (r .number) (r .place) (r .class) (0x2D ∷ [])) back b 0 n
-      → PutsAt (goodAnswer P id text) out b 0 n
+  pub refused-puts : (r .number ≡ 0 → ⊥) → {b : List ℕ} {n : ℕ} → Puts (answerLine id (r .number) (r .place) (r .class) (0x2D ∷ [])) back b 0 n
+      → Puts (goodAnswer P id text) out b 0 n
   unfolding written
   refused-puts z x =
       let none : after ≡ take k (drop start out) =

@@ -2,7 +2,7 @@
 -- or of three.
 -- Assumes nothing.
 use mathlib.Core.Path.{_≡_, refl, sym, ap, _∙_}
-use mathlib.Core.Bool.{Bool, true}
+use mathlib.Core.Bool.{true}
 use mathlib.Core.List.{List, [], _∷_, _++_, append-assoc, append-nil}
 use Prim.Native.Nat.{ℕ, suc, _+_, _-_, _*_, _%_, _≤_, _<_}
 use native.Mathlib.Numerals.{add-one}
@@ -14,11 +14,8 @@ use borrow.Author.Tests.{lt-ltb, le-leb}
 use Rattle.lists.specs.Tests.{within, allOf}
 use Rattle.lists.proofs.Laws.{in-range, all-append}
 use Rattle.batch.specs.Utf8.{scalar, encode, encodes, decoded}
+use Rattle.batch.specs.Decodes.{plain}
 use Rattle.batch.proofs.Encoding.{enc1, enc-three, small-scalar, exactly}
-
--- no control character
-abbrev pub plain : List ℕ → Bool
-plain l = allOf (leb 0x20) l
 
 encodes-more : (cs : List ℕ) (c : ℕ) → encodes (cs ++ c ∷ []) ≡ encodes cs ++ encode c
 unfolding encodes

@@ -15,7 +15,8 @@ use Rattle.batch.specs.declared.answer.Next.{Next}
 use Rattle.batch.specs.declared.answer.Wrote.{Wrote}
 use Rattle.batch.specs.declared.stream.Line.{Line}
 use Rattle.batch.specs.Stream.{lf, fresh, pushed, pushedAll, after, most, closed, wrote, usedFrom, used}
-use Rattle.batch.specs.Feed.{Stands, Writes, Scans}
+use Rattle.batch.specs.Answers.{Stands, Writes}
+use Rattle.batch.specs.Feed.{Scans}
 use Rattle.batch.specs.Next.{Answered, Quick, LineAt}
 use Rattle.batch.proofs.Whole.{after-append, wrote-append, holds-fresh, closed-all}
 use Rattle.batch.proofs.Cuts.{none-used, line-after, line-wrote, line-used}

@@ -1,14 +1,14 @@
 -- A contract decides all: two results that satisfy it are the same, and so are the two buffers. The contracts of the line reader
 -- are equations, and decide all as they stand.
 -- Assumes nothing.
-use mathlib.Core.Path.{_≡_, sym, _∙_}
+use mathlib.Core.Path.{_≡_, refl, sym, _∙_}
 use mathlib.Core.List.{List}
 use Prim.Native.Nat.{ℕ}
-use Rattle.rules.specs.Permits.{Permits}
 use Rattle.batch.specs.declared.answer.Wrote.{Wrote}
 use Rattle.batch.specs.declared.utf8.Decoded.{Decoded}
 use Rattle.batch.specs.Decodes.{Decodes}
-use Rattle.batch.specs.Answers.{AnswersLine}
+use Rattle.batch.specs.Answers.{Writes}
+use Rattle.batch.proofs.Lent.{stands-one}
 
 pub decodes-once : (bytes before a b : List ℕ) (r s : Decoded) → Decodes bytes before a r → Decodes bytes before b s → (r ≡ s) × (a ≡ b)
 decodes-once bytes before a b r s x y =
@@ -16,9 +16,9 @@ decodes-once bytes before a b r s x y =
     let n = x .count ∙ sym (y .count) in
     (λ i. record { ok = o i; count = n i }, x .buffer ∙ sym (y .buffer))
 
-pub answers-once : (P : Permits) (line before a b : List ℕ) (r s : Wrote) → AnswersLine P line before a r → AnswersLine P line before b s
-    → (r ≡ s) × (a ≡ b)
-answers-once P line before a b r s x y =
+pub writes-once : (xs before a b : List ℕ) (r s : Wrote) → Writes xs before a r → Writes xs before b s → (r ≡ s) × (a ≡ b)
+writes-once xs before a b r s x y =
     let d = x .done ∙ sym (y .done) in
-    let n = x .length ∙ sym (y .length) in
-    (λ i. record { done = d i; length = n i }, x .buffer ∙ sym (y .buffer))
+    let t = stands-one refl (x .text) (y .text) in
+    let n : r .length ≡ s .length = t .1 in
+    (λ i. record { done = d i; length = n i }, t .0)

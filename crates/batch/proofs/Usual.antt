@@ -12,18 +12,19 @@ use lib.ListN.{length, take, drop, getD, length-append, length-drop, take-append
 use lib.Seq.{split-at, drop-cons, drop-drop, take-at, length-take-le}
 use borrow.Author.Tests.{ne-eqb}
 use Rattle.lists.specs.Tests.{pick, within, allOf, anyOf, firstOf}
+use Rattle.lists.specs.Front.{Puts}
 use Rattle.lists.proofs.Laws.{clash, any-append, all-none}
+use Rattle.lists.proofs.Scan.{first-past}
 use Rattle.rules.specs.Permits.{Permits}
 use Rattle.batch.specs.Utf8.{Text, decoded}
+use Rattle.batch.specs.Decodes.{plain}
 use Rattle.batch.specs.Answer.{tab, idByte, goodId, goodAnswer, answerTo}
-use Rattle.batch.specs.Answers.{PutsAt}
 use Rattle.batch.specs.Stream.{lf}
 use Rattle.batch.specs.Next.{Answered}
 use Rattle.batch.proofs.LineFields.{noId, right-length}
-use Rattle.batch.proofs.OneTab.{Fields, fields-are, first-past}
-use Rattle.batch.proofs.Pieces.{puts-length, puts-written}
+use Rattle.batch.proofs.OneTab.{Fields, fields-are}
+use Rattle.batch.proofs.Lent.{puts-stands}
 use Rattle.batch.proofs.Answering.{two-parts, fields-good}
-use Rattle.batch.proofs.Reading.{plain}
 
 id-before : (xs : List ℕ) → allOf idByte (take (firstOf noId xs) xs) ≡ true
 unfolding allOf firstOf
@@ -94,7 +95,7 @@ module _ (s : List ℕ) (at : ℕ) {t e : ℕ} {rest : List ℕ} (et : t ≡ at 
   inside = omega (arith, ap length er, length-drop (t + 1) s)
 
   pub answered : (P : Permits) {codes before after : List ℕ} {n : ℕ} → (t ≡ at → ⊥) → t - at ≤ 32 → e < 64
-      → decoded name ≡ record { codes = codes; ok = true } → PutsAt (goodAnswer P id codes) before after 0 n
+      → decoded name ≡ record { codes = codes; ok = true } → Puts (goodAnswer P id codes) before after 0 n
       → Answered (answerTo P) s at before after (record { done = true; end = t + 1 + e; length = n })
   unfolding lf
   answered P {n = n} p q r d x =
@@ -103,4 +104,4 @@ module _ (s : List ℕ) (at : ℕ) {t e : ℕ} {rest : List ℕ} (et : t ≡ at 
       let is : take (t + 1 + e - at) (drop at s) ≡ lineOf id name =
       ap (take (t + 1 + e - at)) whole ∙ take-at (lineOf id name) (0x0A ∷ drop (suc e) rest) (t + 1 + e - at) long in
       let y = rw (← line-answer id name ei en P (omega (arith, id-long)) (omega (arith, id-long)) (omega (arith, name-long)) d) at x in
-      record { end = omega (arith, first); inside = inside; text = rw is (record { count = puts-length y; buffer = puts-written y }) }
+      record { end = omega (arith, first); inside = inside; text = rw is (puts-stands y) }

@@ -1,37 +1,29 @@
 -- What the call for a line answers, and what it leaves in the buffer that is lent to it.
-use mathlib.Core.Bool.{Bool, not, _||_}
+use mathlib.Core.Bool.{not, _||_}
 use mathlib.Core.List.{List, [], _∷_, _++_}
 use mathlib.Core.Path.{_≡_}
-use Prim.Native.Nat.{ℕ, _+_, _≤_}
+use Prim.Native.Nat.{ℕ}
 use lib.Dec.{leb}
-use lib.ListN.{length, take, drop}
+use lib.ListN.{length}
 use Rattle.lists.specs.Tests.{pick}
 use Rattle.lists.specs.Front.{written}
 use Rattle.rules.specs.Permits.{Permits}
 use Rattle.batch.specs.declared.answer.Wrote.{Wrote}
 use Rattle.batch.specs.Utf8.{decoded}
-use Rattle.batch.specs.Answer.{decimal, goodId, badAnswer, goodAnswer, answerTo}
+use Rattle.batch.specs.Answer.{decimal, goodId, badAnswer, goodAnswer}
+use Rattle.batch.specs.Stream.{most}
 
--- there is room for the longest answer
-unfoldable pub roomy : List ℕ → Bool
-roomy before = leb 256 (length before)
+-- xs stands at the buffer's start, n is its length, and past it is what was there before
+pub record Stands (xs before after : List ℕ) (n : ℕ) : Type 0 where
+  pub count : n ≡ length xs
+  pub buffer : after ≡ written xs before
 
--- what it writes at the buffer's start: the answer, or nothing where there is no such room
-unfoldable pub answered : Permits → List ℕ → List ℕ → List ℕ
-answered P line before = pick (roomy before) (answerTo P line) []
-
-pub record AnswersLine (P : Permits) (line before after : List ℕ) (r : Wrote) : Type 0 where
-  pub done : r .done ≡ roomy before
-  pub buffer : after ≡ written (answered P line before) before
-  pub length : r .length ≡ length (answered P line before)
+-- with room for the longest answer xs is written, and nothing without
+pub record Writes (xs before after : List ℕ) (r : Wrote) : Type 0 where
+  pub done : r .done ≡ leb most (length before)
+  pub text : Stands (pick (leb most (length before)) xs []) before after (r .length)
 
 -- ---- how the line is put together
-
--- a piece stands from n on, r is past it, and all else is as it was
-pub record PutsAt (piece before after : List ℕ) (n r : ℕ) : Type 0 where
-  pub place : r ≡ n + length piece
-  pub room : r ≤ length before
-  pub whole : after ≡ take n before ++ piece ++ drop r before
 
 -- id, number and place, a tab after each: how an answer line begins
 unfoldable pub frontOf : List ℕ → ℕ → ℕ → List ℕ

@@ -5,23 +5,12 @@ use Prim.Native.Nat.{ℕ, _-_, _≤_}
 use lib.Dec.{leb}
 use lib.ListN.{length, take, drop}
 use Rattle.lists.specs.Tests.{pick, firstOf}
-use Rattle.lists.specs.Front.{written}
-use Rattle.batch.specs.declared.answer.Wrote.{Wrote}
 use Rattle.batch.specs.declared.stream.Fed.{Fed}
 use Rattle.batch.specs.declared.stream.Finished.{Finished}
 use Rattle.batch.specs.declared.stream.Line.{Line}
 use Rattle.batch.specs.declared.stream.Scanned.{Scanned}
 use Rattle.batch.specs.Stream.{lf, fresh, pushedAll, after, most, wrote, ended, used}
-
--- xs stands at the buffer's start, n is its length, and past it is what was there before
-pub record Stands (xs before after : List ℕ) (n : ℕ) : Type 0 where
-  pub count : n ≡ length xs
-  pub buffer : after ≡ written xs before
-
--- with room for the longest answer xs is written, and nothing without
-pub record Writes (xs before after : List ℕ) (r : Wrote) : Type 0 where
-  pub done : r .done ≡ leb most (length before)
-  pub text : Stands (pick (leb most (length before)) xs []) before after (r .length)
+use Rattle.batch.specs.Answers.{Stands}
 
 -- of a piece s whose lines up to `at` are answered, in o bytes: with room for a further answer the rest is carried on
 unfoldable pub restOf : List ℕ → ℕ → ℕ → ℕ → Fed

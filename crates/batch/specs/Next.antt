@@ -7,7 +7,7 @@ use lib.ListN.{length, take, drop}
 use Rattle.lists.specs.Tests.{firstOf}
 use Rattle.batch.specs.declared.answer.Next.{Next}
 use Rattle.batch.specs.Stream.{lf}
-use Rattle.batch.specs.Feed.{Stands}
+use Rattle.batch.specs.Answers.{Stands}
 
 -- the line of s that begins at `at` ends in s, and its answer stands at the buffer's start
 pub record Answered (answer : List ℕ → List ℕ) (s : List ℕ) (at : ℕ) (before after : List ℕ) (r : Next) : Type 0 where

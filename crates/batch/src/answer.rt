@@ -12,9 +12,10 @@ ghost use mathlib.Core.Bool.{false};
 ghost use mathlib.Core.List.{[], _∷_};
 ghost use Prim.Native.Nat.{_+_, _≤_, _<_, _%_, min};
 ghost use lib.ListN.{length};
+ghost use Rattle.lists.specs.Front.{Puts};
 ghost use Rattle.rules.specs.Editions.{todayWith};
 ghost use Rattle.batch.specs.Answer.{decimal, letter, answerLine, badAnswer, goodAnswer, answerTo};
-ghost use Rattle.batch.specs.Answers.{AnswersLine, PutsAt, frontOf, fieldsAnswer};
+ghost use Rattle.batch.specs.Answers.{Writes, frontOf, fieldsAnswer};
 ghost use Rattle.batch.specs.Next.{Quick};
 
 const LF: u8 = 0x0A;
@@ -22,7 +23,7 @@ const LF: u8 = 0x0A;
 const HYPHEN: u8 = 0x2D;
 
 // Room for the longest answer.
-const MOST: usize = 256;
+pub(crate) const MOST: usize = 256;
 
 // Whether there was room for the longest answer, and how many bytes were written.
 pub struct Wrote {
@@ -33,7 +34,7 @@ pub struct Wrote {
 // Puts s into out from n on, and answers the place past it.
 fn put(out: &mut [u8], n: usize, s: &[u8]) -> usize
     requires { ⌜ n + length (now s) ≤ length (now out) ⌝ }
-    ensures { λ r. ⌜ PutsAt (now (s .entry)) (now (out .entry)) (now (out .exit)) n r ⌝ }
+    ensures { λ r. ⌜ Puts (now (s .entry)) (now (out .entry)) (now (out .exit)) n r ⌝ }
 {
     let mut i = 0;
     while i < s.len() {
@@ -45,7 +46,7 @@ fn put(out: &mut [u8], n: usize, s: &[u8]) -> usize
 
 fn put_byte(out: &mut [u8], n: usize, b: u8) -> usize
     requires { ⌜ n < length (now out) ⌝ }
-    ensures { λ r. ⌜ PutsAt (b ∷ []) (now (out .entry)) (now (out .exit)) n r ⌝ }
+    ensures { λ r. ⌜ Puts (b ∷ []) (now (out .entry)) (now (out .exit)) n r ⌝ }
 {
     out[n] = b;
     n + 1
@@ -54,7 +55,7 @@ fn put_byte(out: &mut [u8], n: usize, b: u8) -> usize
 // Puts the last digit of a number.
 fn put_digit(out: &mut [u8], n: usize, x: usize) -> usize
     requires { ⌜ n < length (now out) ⌝ }
-    ensures { λ r. ⌜ PutsAt ((0x30 + x % 10) ∷ []) (now (out .entry)) (now (out .exit)) n r ⌝ }
+    ensures { λ r. ⌜ Puts ((0x30 + x % 10) ∷ []) (now (out .entry)) (now (out .exit)) n r ⌝ }
 {
     let digit = x % 10;
     put_byte(out, n, 0x30 + digit as u8)
@@ -63,7 +64,7 @@ fn put_digit(out: &mut [u8], n: usize, x: usize) -> usize
 // Puts a number of at most three digits.
 fn put_decimal(out: &mut [u8], n: usize, x: usize) -> usize
     requires { ⌜ n + 3 ≤ length (now out) ⌝ }
-    ensures { λ r. ⌜ PutsAt (decimal x) (now (out .entry)) (now (out .exit)) n r ⌝ }
+    ensures { λ r. ⌜ Puts (decimal x) (now (out .entry)) (now (out .exit)) n r ⌝ }
 {
     if x < 10 {
         return put_digit(out, n, x);
@@ -91,7 +92,7 @@ fn class_letter(class: Class) -> u8
 // Puts id, number and place, a tab after each, at the start of out.
 fn put_front(id: &[u8], number: usize, place: usize, out: &mut [u8]) -> usize
     requires { ⌜ length (now id) + 9 ≤ length (now out) ⌝ }
-    ensures { λ r. ⌜ PutsAt (frontOf (now (id .entry)) number place) (now (out .entry)) (now (out .exit)) 0 r ⌝ }
+    ensures { λ r. ⌜ Puts (frontOf (now (id .entry)) number place) (now (out .entry)) (now (out .exit)) 0 r ⌝ }
 {
     let a = put(out, 0, id);
     let b = put_byte(out, a, TAB);
@@ -111,7 +112,7 @@ fn put_line(
     out: &mut [u8],
 ) -> usize
     requires { ⌜ length (now id) + length (now form) + 12 ≤ length (now out) ⌝ }
-    ensures { λ r. ⌜ PutsAt (answerLine (now (id .entry)) number place class (now (form .entry))) (now (out .entry)) (now (out .exit)) 0 r ⌝ }
+    ensures { λ r. ⌜ Puts (answerLine (now (id .entry)) number place class (now (form .entry))) (now (out .entry)) (now (out .exit)) 0 r ⌝ }
 {
     let letter = class_letter(class);
     let a = put_front(id, number, place, out);
@@ -124,7 +125,7 @@ fn put_line(
 // Puts the answer to a bad line.
 fn put_bad(out: &mut [u8]) -> usize
     requires { ⌜ 256 ≤ length (now out) ⌝ }
-    ensures { λ r. ⌜ PutsAt badAnswer (now (out .entry)) (now (out .exit)) 0 r ⌝ }
+    ensures { λ r. ⌜ Puts badAnswer (now (out .entry)) (now (out .exit)) 0 r ⌝ }
 {
     let none = [HYPHEN];
     put_line(&none, 16, 0, Class::None, &none, out)
@@ -133,7 +134,7 @@ fn put_bad(out: &mut [u8]) -> usize
 // Puts the answer to a line with this id and this text as its name. The form goes straight to its place.
 fn put_text(kanji: &[u32], id: &[u8], text: &[u32], out: &mut [u8]) -> usize
     requires { ⌜ (length (now id) ≤ 32) × (256 ≤ length (now out)) ⌝ }
-    ensures { λ r. ⌜ PutsAt (goodAnswer (todayWith (now (kanji .entry))) (now (id .entry)) (now (text .entry))) (now (out .entry)) (now (out .exit)) 0 r ⌝ }
+    ensures { λ r. ⌜ Puts (goodAnswer (todayWith (now (kanji .entry))) (now (id .entry)) (now (text .entry))) (now (out .entry)) (now (out .exit)) 0 r ⌝ }
 {
     let start = id.len() + 7;
     let end = start + 192;
@@ -162,7 +163,7 @@ fn lent(count: usize) -> usize
 // Puts the answer to a line with these two fields.
 fn put_fields(kanji: &[u32], id: &[u8], name: &[u8], out: &mut [u8]) -> usize
     requires { ⌜ 256 ≤ length (now out) ⌝ }
-    ensures { λ r. ⌜ PutsAt (fieldsAnswer (todayWith (now (kanji .entry))) (now (id .entry)) (now (name .entry))) (now (out .entry)) (now (out .exit)) 0 r ⌝ }
+    ensures { λ r. ⌜ Puts (fieldsAnswer (todayWith (now (kanji .entry))) (now (id .entry)) (now (name .entry))) (now (out .entry)) (now (out .exit)) 0 r ⌝ }
 {
     if !is_id(id) {
         return put_bad(out);
@@ -179,7 +180,7 @@ fn put_fields(kanji: &[u32], id: &[u8], name: &[u8], out: &mut [u8]) -> usize
 // Puts the answer to a line.
 fn put_answer(kanji: &[u32], line: &[u8], out: &mut [u8]) -> usize
     requires { ⌜ 256 ≤ length (now out) ⌝ }
-    ensures { λ r. ⌜ PutsAt (answerTo (todayWith (now (kanji .entry))) (now (line .entry))) (now (out .entry)) (now (out .exit)) 0 r ⌝ }
+    ensures { λ r. ⌜ Puts (answerTo (todayWith (now (kanji .entry))) (now (line .entry))) (now (out .entry)) (now (out .exit)) 0 r ⌝ }
 {
     if 1024 < line.len() {
         return put_bad(out);
@@ -197,7 +198,7 @@ fn put_answer(kanji: &[u32], line: &[u8], out: &mut [u8]) -> usize
 
 // The answer to a line, at the start of out. The table of kanji is lent.
 pub fn answer(kanji: &[u32], line: &[u8], out: &mut [u8]) -> Wrote
-    ensures { λ r. ⌜ AnswersLine (todayWith (now (kanji .entry))) (now (line .entry)) (now (out .entry)) (now (out .exit)) r ⌝ }
+    ensures { λ r. ⌜ Writes (answerTo (todayWith (now (kanji .entry))) (now (line .entry))) (now (out .entry)) (now (out .exit)) r ⌝ }
 {
     if out.len() < MOST {
         return Wrote {

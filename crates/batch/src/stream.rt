@@ -7,8 +7,10 @@ ghost use Rattle.lists.specs.Tests.{firstOf};
 ghost use Rattle.rules.specs.Editions.{todayWith};
 ghost use Rattle.batch.specs.Answer.{answerTo, badAnswer};
 ghost use Rattle.batch.specs.Stream.{lf, fresh, pushedAll, closed};
-ghost use Rattle.batch.specs.Feed.{Writes, Scans, Feeds, restOf, Finishes};
+ghost use Rattle.batch.specs.Answers.{Writes};
+ghost use Rattle.batch.specs.Feed.{Scans, Feeds, restOf, Finishes};
 ghost use Rattle.batch.specs.Next.{LineAt};
+use crate::answer::MOST;
 use crate::answer::Next;
 use crate::answer::Wrote;
 use crate::answer::answer;
@@ -16,9 +18,6 @@ use crate::answer::quick;
 
 // A line of more bytes is refused.
 const LINE: usize = 1024;
-
-// No answer is longer.
-const MOST: usize = 256;
 
 // The bytes of a line whose end has not come, and how many; over 1,024 says that there were more.
 pub struct Line {

@@ -2,11 +2,10 @@
 ghost use mathlib.Core.Path.{_≡_};
 ghost use mathlib.Core.Bool.{true};
 ghost use Prim.Native.Nat.{_+_, _^_, _≤_, _<_, min};
-ghost use lib.Dec.{leb};
-ghost use lib.ListN.{length, take, set, getD};
-ghost use Rattle.lists.specs.Tests.{within, allOf};
-ghost use Rattle.batch.specs.Utf8.{whole, decoded};
-ghost use Rattle.batch.specs.Decodes.{decodedAs, Decodes, Leads};
+ghost use lib.ListN.{length, set};
+ghost use Rattle.lists.specs.Tests.{within};
+ghost use Rattle.batch.specs.Utf8.{whole};
+ghost use Rattle.batch.specs.Decodes.{decodedAs, Decodes, Leads, Reads};
 
 // Whether all bytes are well-formed, and how many code points there are before the first fault.
 pub struct Decoded {
@@ -185,8 +184,7 @@ fn is_first(b: u32) -> bool
 // Reads a name of ASCII and such values up to an LF: its code points go to the start of out. Of any other nothing is said.
 pub(crate) fn read_name(s: &[u8], out: &mut [u32]) -> Read
     requires { ⌜ 64 ≤ length (now out) ⌝ }
-    ensures place { λ r. ⌜ (r .ok ≡ true → (r .end < min (length (now (s .entry))) 64) × (getD (now (s .entry)) (r .end) 0 ≡ 0x0A) × (allOf (leb 0x20) (take (r .end) (now (s .entry))) ≡ true)) ⌝ }
-    ensures text { λ r. ⌜ (r .ok ≡ true → (r .count ≤ r .end) × (decoded (take (r .end) (now (s .entry))) ≡ record { codes = take (r .count) (now (out .exit)); ok = true })) ⌝ }
+    ensures { λ r. ⌜ (r .ok ≡ true → Reads (now (s .entry)) (now (out .exit)) r) ⌝ }
 {
     let end = first_64(s.len());
     let mut n = 0;

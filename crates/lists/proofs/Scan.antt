@@ -1,16 +1,18 @@
--- A scan from the left, for any test f: what each turn and the end of the loop show.
+-- A scan from the left, for any test f: what each turn and the end of the loop show, and what is known of the place where f first holds.
 -- Assumes nothing.
 use mathlib.Core.Path.{_≡_, refl, sym, ap, _∙_}
 use mathlib.Core.Bool.{Bool, true, false, _&&_, _||_}
-use mathlib.Core.List.{List, [], _∷_}
+use mathlib.Core.List.{List, [], _∷_, _++_}
+use mathlib.Core.Logic.{⊎-elim}
 use Prim.Native.Nat.{ℕ, suc, _+_, _≤_, _<_}
 use native.Mathlib.Numerals.{add-one}
 use native.Mathlib.Omega.{arith}
-use lib.Dec.{eqb}
-use lib.ListN.{length, drop, getD, drop-of-length-le}
-use lib.Seq.{drop-cons}
-use borrow.Author.Tests.{eq-eqb, ne-eqb}
+use lib.Dec.{eqb, ltb}
+use lib.ListN.{length, take, drop, getD, drop-of-length-le}
+use lib.Seq.{drop-cons, split-at}
+use borrow.Author.Tests.{eq-eqb, ne-eqb, lt-ltb, le-ltb, ltb-true}
 use Rattle.lists.specs.Tests.{pick, allOf, anyOf, firstOf, elem, same}
+use Rattle.lists.proofs.Laws.{neither, lt-or-le}
 
 module _ (f : ℕ → Bool) (t : List ℕ) (i : ℕ) where
   module _ (h : i < length t) where
@@ -55,6 +57,62 @@ module _ (f : ℕ → Bool) (t : List ℕ) (i : ℕ) where
   pub first-end : (n : ℕ) → length t ≤ i → n ≡ i + firstOf f (drop i t) → i ≡ n
   unfolding firstOf
   first-end n h e = omega (arith, ap (firstOf f) (drop-of-length-le t h))
+
+-- ---- the first entry of which the test holds
+
+below-suc : (a b : ℕ) → ltb a b ≡ ltb (suc a) (suc b)
+below-suc a b =
+    ⊎-elim (λ h. lt-ltb a b h ∙ sym (lt-ltb (suc a) (suc b) (omega arith))) (λ h. le-ltb a b h ∙ sym (le-ltb (suc a) (suc b) (omega arith)))
+    (lt-or-le a b)
+
+module _ (f : ℕ → Bool) where
+  any-first : (xs : List ℕ) → anyOf f xs ≡ ltb (firstOf f xs) (length xs)
+  unfolding anyOf firstOf
+  any-first [] = refl
+  any-first (x ∷ xs) = go (f x) (any-first xs)
+    where
+      go : (b : Bool) → anyOf f xs ≡ ltb (firstOf f xs) (length xs) → b || anyOf f xs ≡ ltb (pick b 0 (suc (firstOf f xs))) (suc (length xs))
+      go true e = sym (lt-ltb 0 (suc (length xs)) (omega arith))
+      go false e = e ∙ below-suc (firstOf f xs) (length xs)
+
+  pub found : (xs : List ℕ) → firstOf f xs < length xs → anyOf f xs ≡ true
+  found xs h = any-first xs ∙ lt-ltb (firstOf f xs) (length xs) h
+
+  pub not-found : (xs : List ℕ) → length xs ≤ firstOf f xs → anyOf f xs ≡ false
+  not-found xs h = any-first xs ∙ le-ltb (firstOf f xs) (length xs) h
+
+  pub found-inside : (xs : List ℕ) → anyOf f xs ≡ true → firstOf f xs < length xs
+  found-inside xs e = ltb-true (firstOf f xs) (length xs) (sym (any-first xs) ∙ e)
+
+  pub none-before : (xs : List ℕ) → anyOf f (take (firstOf f xs) xs) ≡ false
+  unfolding anyOf firstOf
+  none-before [] = refl
+  none-before (x ∷ xs) = go (f x) refl (none-before xs)
+    where
+      go : (b : Bool) → f x ≡ b → anyOf f (take (firstOf f xs) xs) ≡ false → anyOf f (take (pick b 0 (suc (firstOf f xs))) (x ∷ xs)) ≡ false
+      go true e h = refl
+      go false e h = rw e h
+
+  holds-there : (xs : List ℕ) → firstOf f xs < length xs → f (getD xs (firstOf f xs) 0) ≡ true
+  unfolding firstOf
+  holds-there [] h = absurd (omega arith)
+  holds-there (x ∷ xs) h = go (f x) refl h (holds-there xs)
+    where
+      go : (b : Bool) → f x ≡ b → pick b 0 (suc (firstOf f xs)) < suc (length xs) → (firstOf f xs < length xs → f (getD xs (firstOf f xs) 0) ≡ true)
+          → f (getD (x ∷ xs) (pick b 0 (suc (firstOf f xs))) 0) ≡ true
+      go true e k on = e
+      go false e k on = on (omega arith)
+
+  -- a test that holds of c alone cuts a list at the first c
+  pub cut-first : (c : ℕ) → ((b : ℕ) → f b ≡ true → b ≡ c) → (xs : List ℕ) → firstOf f xs < length xs → xs ≡ take (firstOf f xs) xs ++ c ∷ drop (suc (firstOf f xs)) xs
+  cut-first c only xs h =
+      let u : ℕ = firstOf f xs in
+      split-at xs u 0 h ∙ ap (λ (b : ℕ). take u xs ++ b ∷ drop (suc u) xs) (only _ (holds-there xs h))
+
+  pub first-past : (xs : List ℕ) (c : ℕ) (ys : List ℕ) → anyOf f xs ≡ false → f c ≡ true → firstOf f (xs ++ c ∷ ys) ≡ length xs
+  unfolding anyOf firstOf
+  first-past [] c ys e h = rw h
+  first-past (x ∷ xs) c ys e h = let p = neither (f x) (anyOf f xs) e in rw (p .0) (ap suc (first-past xs c ys (p .1) h))
 
 -- ---- one number looked for, where the code compares an entry with it
 

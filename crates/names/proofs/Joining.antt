@@ -9,13 +9,14 @@ use Prim.Native.Nat.{ℕ, zero, suc, _+_, _-_, _*_, _≤_, _<_}
 use native.Mathlib.Numerals.{add-one, add-two}
 use native.Mathlib.Omega.{arith}
 use lib.Dec.{eqb, leb, ltb}
-use lib.ListN.{length, take, drop, getD, set, length-append, length-drop, drop-of-length-le, take-append-drop}
-use lib.Seq.{paste, paste-suc, take-all, take-at, drop-at, drop-drop, set-split, sets-eq}
+use lib.ListN.{length, take, drop, getD, set, length-drop, drop-of-length-le, take-append-drop}
+use lib.Seq.{take-all, drop-drop, sets-eq}
 use borrow.Author.Tests.{eq-eqb, ne-eqb, le-ltb, leb-true, ltb-true, eqb-true, not-true, not-false}
 use Rattle.lists.specs.Tests.{pick, allOf, anyOf, firstOf}
-use Rattle.lists.specs.Front.{written}
+use Rattle.lists.specs.Front.{written, Puts}
 use Rattle.lists.proofs.Fronts.{untouched}
 use Rattle.lists.proofs.Laws.{both, clash, lt-or-le}
+use Rattle.lists.proofs.Pieces.{puts-length, then, put-one}
 use Rattle.punycode.specs.Punycode.{ace, encodable}
 use Rattle.punycode.specs.Calls.{coderNumber, coderWrites, Encodes}
 use Rattle.punycode.specs.declared.Coded.{Coded}
@@ -25,36 +26,14 @@ use Rattle.rules.specs.Rules.{isJapanese, jp}
 use Rattle.rules.specs.Editions.{todayWith}
 use Rattle.rules.proofs.Cuts.{Labelled, none, cut, held, labelled, ended, last-from, first-from}
 use Rattle.names.specs.Calls.{asciiLabel, asciiForm, uncoded}
-use Rattle.names.specs.Steps.{octet, wide, writable, Writable, Puts, Tries, TriesOne, dotJp}
+use Rattle.names.specs.Steps.{octet, wide, writable, Writable, Tries, TriesOne, dotJp}
 use Rattle.names.specs.declared.ascii.Put.{Put}
 use Rattle.names.proofs.OfLabel.{wide-is}
-
--- ---- pieces
-
--- one piece more
-pub next : {xs piece out₀ out₁ out₂ : List ℕ} {n r : ℕ} → Puts xs out₀ out₁ 0 n → Puts piece out₁ out₂ n r → Puts (xs ++ piece) out₀ out₂ 0 r
-next {xs} {piece} {out₀} {out₁} {out₂} {n} {r} w p =
-    let k : ℕ = length piece in
-    let c : length xs ≡ n = omega (arith, w .place) in
-    let at-front : take n out₁ ≡ xs = ap (take n) (w .buffer) ∙ take-at xs (drop n out₀) n c in
-    let at-back : drop n out₁ ≡ drop n out₀ = ap (drop n) (w .buffer) ∙ drop-at xs (drop n out₀) n c in
-    let rest : drop (n + k) out₁ ≡ drop (n + k) out₀ = sym (drop-drop k n out₁) ∙ ap (drop k) at-back ∙ drop-drop k n out₀ in
-    record {
-      place = omega (arith, length-append xs piece, w .place, p .place);
-      buffer = p .buffer ∙ rw (at-front, p .place, rest) (sym (append-assoc xs piece (drop (n + k) out₀)));
-    }
-
-put-one : (out : List ℕ) (n b : ℕ) → n < length out → Puts (b ∷ []) out (set out n b) n (n + 1)
-put-one out n b h = record { place = refl; buffer = rw add-one (set-split out n b h) }
 
 -- ".jp", octet by octet
 pub put-jp : (out : List ℕ) (n : ℕ) → n + 3 ≤ length out → Puts dotJp out (set (set (set out n 0x2E) (n + 1) 0x6A) (n + 2) 0x70) n (n + 3)
 unfolding jp
-put-jp out n h = record { place = refl; buffer = rw (add-one n, add-two n) (sets-eq dotJp out n h ∙ append-assoc (take n out) dotJp (drop (n + 3) out)) }
-
--- a piece that has room leaves the buffer as long as it was
-puts-length : {xs out₀ out : List ℕ} {n : ℕ} → Puts xs out₀ out 0 n → n ≤ length out₀ → length out ≡ length out₀
-puts-length {xs} {out₀} {out} {n} w h = omega (arith, ap length (w .buffer), length-append xs (drop n out₀), length-drop n out₀, w .place)
+put-jp out n h = record { place = refl; room = h; buffer = rw (add-one n, add-two n) (sets-eq dotJp out n h) }
 
 -- ---- an ASCII label
 
@@ -63,16 +42,6 @@ unfolding allOf octet
 octet-at [] i e h = absurd (omega arith)
 octet-at (x ∷ xs) zero e h = ltb-true x 0x100 (both (ltb x 0x100) (allOf octet xs) e .0)
 octet-at (x ∷ xs) (suc i) e h = octet-at xs i (both (ltb x 0x100) (allOf octet xs) e .1) (omega arith)
-
-pub plain-turn : (out₀ out l : List ℕ) (n i : ℕ) → n + length l ≤ length out₀ → i < length l → out ≡ paste out₀ n l i
-    → set out (n + i) (getD l i 0) ≡ paste out₀ n l (i + 1)
-plain-turn out₀ out l n i h g e = rw (e, add-one i) (paste-suc out₀ n l i 0 (omega arith) g)
-
-pub plain-end : (out₀ out l : List ℕ) (n i : ℕ) → i ≤ length l → length l ≤ i → out ≡ paste out₀ n l i → Puts l out₀ out n (n + i)
-plain-end out₀ out l n i h g e = record {
-  place = omega arith;
-  buffer = e ∙ rw (take-all i l g) (append-assoc (take n out₀) l (drop (n + i) out₀));
-}
 
 -- ---- a label that is coded
 
@@ -134,7 +103,13 @@ module _ (l out last : List ℕ) (at : ℕ) (h : at + 63 ≤ length out) {k : Co
         let left : last ≡ ace l ++ drop (at + length (ace l)) out = e .buffer ∙ rw (writes-is, part, drop-drop (length (ace l)) at out) in
         record {
           coded = sym (eq-eqb (coderNumber l 63) 0 (sym number-is ∙ z));
-          put = λ p. record { place = rw length-is; buffer = rw (none-after, append-nil last, length-is, left) };
+          put =
+              λ p.
+              record {
+                place = rw length-is;
+                room = coded-fits;
+                buffer = rw (none-after, append-nil last, length-is, left) (sym (append-assoc (take at out) (ace l) (drop (at + length (ace l)) out)));
+              };
         }
 
 -- ---- a label
@@ -204,7 +179,7 @@ unfolding asciiForm
 goes P form out w = record {
   done = [];
   within = omega arith;
-  put = record { place = refl; buffer = refl };
+  put = record { place = refl; room = omega arith; buffer = refl };
   whole = refl;
   told = refl;
   fit = w .fit;
@@ -233,7 +208,7 @@ module _ (P : Permits) {form out₀ out : List ℕ} {from at : ℕ} (g : Going P
   by-end f = ⊎-elim (λ k. f (labels (drop (e + 1) form)) (more-here k)) (λ k. f [] (last-here k)) (lt-or-le e (length form))
 
   pub out-length : length out ≡ length out₀
-  out-length = puts-length (g .put) (omega (arith, g .room))
+  out-length = puts-length (g .put)
 
   pub here-writable : writable P here ≡ true
   unfolding allOf
@@ -255,7 +230,7 @@ module _ (P : Permits) {form out₀ out : List ℕ} {from at : ℕ} (g : Going P
       taken = not-true (uncoded P here) (sym (t .coded) ∙ p)
 
       puts : Puts (g .done ++ asciiLabel P here) out₀ out₁ 0 (r .at)
-      puts = next (g .put) (t .put p)
+      puts = then (g .put) (t .put p)
 
       pub turn-last : length form ≤ e → Tries (not (anyOf (uncoded P) (labels form))) (asciiForm P form) out₀ out₁ 0 r
       unfolding anyOf join
@@ -280,7 +255,7 @@ module _ (P : Permits) {form out₀ out : List ℕ} {from at : ℕ} (g : Going P
           record {
             done = (g .done ++ a) ++ (0x2E ∷ []);
             within = omega arith;
-            put = next puts (put-one out₁ (r .at) 0x2E l);
+            put = then puts (put-one out₁ (r .at) 0x2E l);
             whole =
                 append-assoc (g .done ++ a) (0x2E ∷ []) left
                 ∙ append-assoc (g .done) a (0x2E ∷ left)

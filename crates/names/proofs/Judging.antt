@@ -2,17 +2,18 @@
 -- form, of which the rest of the rules speak.
 -- Assumes nothing.
 use mathlib.Core.Path.{_≡_, refl, sym, ap, _∙_}
-use mathlib.Core.Bool.{Bool, true, false, _||_}
+use mathlib.Core.Bool.{false}
 use mathlib.Core.List.{List, [], _∷_, _++_}
 use mathlib.Core.Logic.{_⊎_, inl, inr}
 use Prim.Native.Nat.{ℕ, zero, suc, _-_, _≤_, _<_}
 use native.Mathlib.Omega.{arith}
 use lib.ListN.{length, take, drop, getD, replicate}
 use borrow.Author.Tests.{lt-ltb, le-ltb}
-use Rattle.lists.specs.Tests.{pick, anyOf, firstOf}
+use Rattle.lists.specs.Tests.{anyOf, firstOf}
 use Rattle.lists.specs.Front.{written}
 use Rattle.lists.proofs.Fronts.{untouched, front}
 use Rattle.lists.proofs.Laws.{lt-or-le}
+use Rattle.lists.proofs.Scan.{found, not-found}
 use Rattle.normal.specs.Normal.{normalForm, places}
 use Rattle.normal.specs.Calls.{Normalises}
 use Rattle.normal.specs.declared.Normal.{Normal}
@@ -29,27 +30,6 @@ use Rattle.names.specs.Calls.{shown, padded, judged}
 use Rattle.names.specs.Steps.{byLabels, Judges}
 use Rattle.names.specs.declared.Checked.{Checked}
 use Rattle.names.specs.declared.Judged.{Judged}
-
--- ---- where a test first holds, it holds of some entry
-
-module _ (f : ℕ → Bool) where
-  pub found : (l : List ℕ) → firstOf f l < length l → anyOf f l ≡ true
-  unfolding firstOf anyOf
-  found [] h = absurd (omega arith)
-  found (x ∷ xs) h = go (f x) h (found xs)
-    where
-      go : (b : Bool) → pick b 0 (suc (firstOf f xs)) < suc (length xs) → (firstOf f xs < length xs → anyOf f xs ≡ true) → b || anyOf f xs ≡ true
-      go true h on = refl
-      go false h on = on (omega arith)
-
-  pub not-found : (l : List ℕ) → length l ≤ firstOf f l → anyOf f l ≡ false
-  unfolding firstOf anyOf
-  not-found [] h = refl
-  not-found (x ∷ xs) h = go (f x) h (not-found xs)
-    where
-      go : (b : Bool) → suc (length xs) ≤ pick b 0 (suc (firstOf f xs)) → (length xs ≤ firstOf f xs → anyOf f xs ≡ false) → b || anyOf f xs ≡ false
-      go true h on = absurd (omega arith)
-      go false h on = on (omega arith)
 
 -- ---- an array of zeros
 

@@ -14,6 +14,7 @@ use borrow.Author.Tests.{eq-eqb, ne-eqb, not-true, not-false}
 use Rattle.lists.specs.Tests.{within, allOf, anyOf, same}
 use Rattle.lists.specs.Front.{written}
 use Rattle.lists.proofs.Laws.{both, or-left, or-right, clash, inside, outside, in-range, all-append, all-weaker, all-none, same-refl, same-is}
+use Rattle.lists.proofs.Pieces.{then}
 use Rattle.lists.proofs.Tables.{Clear}
 use Rattle.characters.specs.Characters.{alnum, hyphen, asciiSet, hiragana, katakana, kanjiWith, kanaOrKanjiWith}
 use Rattle.characters.specs.Replace.{ranges, rangeIn, isHalf, replaceIn, replace}
@@ -36,7 +37,7 @@ use Rattle.names.specs.declared.Checked.{Checked}
 use Rattle.names.specs.declared.ascii.Put.{Put}
 use Rattle.names.proofs.Answering.{cleared, ascii-refused, ascii-uncoded, ascii-accepted}
 use Rattle.names.proofs.Enough.{accepted-writable}
-use Rattle.names.proofs.Joining.{next, put-jp, label-size}
+use Rattle.names.proofs.Joining.{put-jp, label-size}
 use Rattle.names.proofs.OfLabel.{either, wide-fit, edge-of, edge-stands, is-0}
 use Rattle.names.proofs.OfName.{two-filled}
 
@@ -257,6 +258,6 @@ module _ (table label : List ℕ) (w : PlainLabel table label) where
               (record { number = 0; place = 0; class = General; length = r .at + 3 })
           unfolding classOf written
           usual-accepted room l =
-              let puts = next (t .tries .put y) (put-jp after (r .at) l) in
+              let puts = then (t .tries .put y) (put-jp after (r .at) l) in
               let size : r .at + 3 ≡ length (asciiLabel P label ++ dotJp) = omega (arith, puts .place) in
               ascii-accepted P text before room clears (uncoded-is ∙ taken) (rw labels-are) (size ∙ ap length (sym form-ascii)) (puts .buffer ∙ rw (form-ascii, size))

@@ -1,12 +1,12 @@
 -- What the functions below the calls answer: parts of the rules, each for the labels or the table that it is handed.
 use mathlib.Core.Bool.{Bool, true, false, not, _&&_, _||_}
-use mathlib.Core.List.{List, [], _∷_, _++_}
+use mathlib.Core.List.{List, [], _∷_}
 use mathlib.Core.Path.{_≡_}
-use Prim.Native.Nat.{ℕ, _+_, _-_, _*_, _≤_}
+use Prim.Native.Nat.{ℕ, _-_, _*_, _≤_}
 use lib.Dec.{leb, ltb}
 use lib.ListN.{length, take, drop}
 use Rattle.lists.specs.Tests.{pick, within, allOf, same}
-use Rattle.lists.specs.Front.{written}
+use Rattle.lists.specs.Front.{written, Puts}
 use Rattle.lists.specs.Rows.{Row, row, first}
 use Rattle.characters.specs.Characters.{asciiSet, kanaOrKanjiWith}
 use Rattle.rules.specs.Labels.{labels}
@@ -79,12 +79,7 @@ pub record Writable (P : Permits) (form : List ℕ) (room : ℕ) : Type 0 where
   pub fit : allOf (writable P) (labels form) ≡ true
   pub few : 64 * length (labels form) ≤ room
 
--- a piece stands from `at` on, r is past it, and all else is as it was
-pub record Puts (piece before after : List ℕ) (at r : ℕ) : Type 0 where
-  pub place : r ≡ at + length piece
-  pub buffer : after ≡ take at before ++ (piece ++ drop r before)
-
--- the same of a piece that the coder may refuse, in whole or in part
+-- a piece that the coder may refuse, in whole or in part, is put from `at` on
 pub record Tries (takes : Bool) (piece before after : List ℕ) (at : ℕ) (r : Put) : Type 0 where
   pub coded : r .coded ≡ takes
   pub put : r .coded ≡ true → Puts piece before after at (r .at)

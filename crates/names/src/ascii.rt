@@ -20,12 +20,13 @@ ghost use Prim.Native.Nat.{_+_, _≤_};
 ghost use lib.Dec.{eqb};
 ghost use lib.ListN.{length};
 ghost use Rattle.lists.specs.Tests.{allOf, anyOf};
+ghost use Rattle.lists.specs.Front.{Puts};
 ghost use Rattle.rules.specs.Editions.{today, todayWith};
 ghost use Rattle.punycode.specs.Punycode.{ace};
 ghost use Rattle.punycode.specs.Calls.{coderNumber};
 ghost use Rattle.rules.specs.Labels.{labels};
 ghost use Rattle.names.specs.Calls.{asciiLabel, asciiForm, uncoded, AsciiForms};
-ghost use Rattle.names.specs.Steps.{octet, writable, Writable, Puts, Tries, TriesOne, PlainLabel, dotJp};
+ghost use Rattle.names.specs.Steps.{octet, writable, Writable, Tries, TriesOne, PlainLabel, dotJp};
 
 // Whether the coder took what it was handed, and the place past what was put.
 pub struct Put {

@@ -6,7 +6,7 @@ use Rattle.batch.proofs.answer.answer.Statement.{statement}
 use Rattle.batch.proofs.answer.answer.Tie as tie
 
 returns : tie.Need-returns
-returns c = no-room _ _ _ (c .if1 .taken)
+returns c = no-room _ _ (c .if1 .taken)
 
 put-answer-requires : tie.Need-put-answer-requires
 put-answer-requires c κs = search needs
@@ -15,7 +15,7 @@ same-length : tie.Need-same-length
 same-length c = search needs
 
 returns-2 : tie.Need-returns-2
-returns-2 c = in-room _ _ _ _ _ (c .before .before .before .before .if1 .left) (c .before .before .put-answer .ensures)
+returns-2 c = in-room _ _ _ _ (c .before .before .before .before .if1 .left) (c .before .before .put-answer .ensures)
 
 pub answer-spec : {M : Type 1} → statement M
 answer-spec = tie.close (tie.spec returns put-answer-requires same-length returns-2)

@@ -5,7 +5,7 @@ use Prim.Native.Nat.{_≤_, _-_, _+_}
 use native.Mathlib.Omega.{arith}
 use lib.ListN.{length, length-set}
 use lib.Seq.{paste, paste-zero}
-use Rattle.batch.proofs.Pieces.{turn, put-all}
+use Rattle.lists.proofs.Pieces.{put-turn, put-all}
 use borrow.Author.Needs.{needs}
 use Rattle.batch.proofs.answer.put.Statement.{statement}
 use Rattle.batch.proofs.answer.put.Tie as tie
@@ -40,7 +40,7 @@ loop-again c =
     let a = c .before .before .before .args in (
       omega arith,
       length-set (l .out) (a .n + l .i) _ ∙ l .inv .1,
-      turn (a .out .now) (l .out) (a .s .now) (a .n) (l .i) (c .before .before .before .pre) (c .before .loop-test .taken) (l .inv .2),
+      put-turn (a .out .now) (l .out) (a .s .now) (a .n) (l .i) (c .before .before .before .pre) (c .before .loop-test .taken) (l .inv .2),
     )
 
 add-result : tie.Need-add-result Inv-loop μ-loop

@@ -1,6 +1,6 @@
 -- `put_byte` meets its contract: one byte at n, and all else as it was.
 -- Assumes nothing.
-use Rattle.batch.proofs.Pieces.{put-one}
+use Rattle.lists.proofs.Pieces.{put-one}
 use borrow.Author.Needs.{needs}
 use Rattle.batch.proofs.answer.put_byte.Statement.{statement}
 use Rattle.batch.proofs.answer.put_byte.Tie as tie

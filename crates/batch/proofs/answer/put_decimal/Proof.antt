@@ -1,6 +1,7 @@
 -- `put_decimal` meets its contract: its three returns are the three cases of `decimal`.
 -- Assumes nothing.
-use Rattle.batch.proofs.Pieces.{then, one-digit, two-digits, three-digits}
+use Rattle.lists.proofs.Pieces.{then}
+use Rattle.batch.proofs.Pieces.{one-digit, two-digits, three-digits}
 use borrow.Author.Needs.{needs}
 use Rattle.batch.proofs.answer.put_decimal.Statement.{statement}
 use Rattle.batch.proofs.answer.put_decimal.Tie as tie

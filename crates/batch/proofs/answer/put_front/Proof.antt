@@ -2,7 +2,8 @@
 -- Assumes nothing.
 use native.Mathlib.Omega.{arith}
 use Rattle.batch.specs.Answers.{frontOf}
-use Rattle.batch.proofs.Pieces.{then, decimal-length}
+use Rattle.lists.proofs.Pieces.{then}
+use Rattle.batch.proofs.Pieces.{decimal-length}
 use borrow.Author.Needs.{needs}
 use Rattle.batch.proofs.answer.put_front.Statement.{statement}
 use Rattle.batch.proofs.answer.put_front.Tie as tie

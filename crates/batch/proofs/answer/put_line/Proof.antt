@@ -3,7 +3,8 @@
 use native.Mathlib.Omega.{arith}
 use Rattle.batch.specs.Answer.{answerLine}
 use Rattle.batch.specs.Answers.{frontOf}
-use Rattle.batch.proofs.Pieces.{then, front-length}
+use Rattle.lists.proofs.Pieces.{then}
+use Rattle.batch.proofs.Pieces.{front-length}
 use borrow.Author.Needs.{needs}
 use Rattle.batch.proofs.answer.put_line.Statement.{statement}
 use Rattle.batch.proofs.answer.put_line.Tie as tie

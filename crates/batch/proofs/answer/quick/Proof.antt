@@ -86,17 +86,16 @@ part-put-text-start-2 c = search needs
 
 part-put-text-end-2 : tie.Need-part-put-text-end-2
 part-put-text-end-2 c =
-    let r = c .before .before .before .before .before .read-name .ensures in
-    let ok = not-false _ (c .before .before .if5 .left) in
-    omega (arith, r .0 ok .0, r .1 ok .0)
+    let read = c .before .before .before .before .before .read-name .ensures (not-false _ (c .before .before .if5 .left)) in
+    omega (arith, read .inside, read .few)
 
 put-text-requires : tie.Need-put-text-requires
 put-text-requires c κs = search needs
 
 add-t11 : tie.Need-add-t11
 add-t11 c =
-    let r = c .before .before .before .before .before .before .before .before .before .before .before .read-name .ensures in
-    omega (arith, r .0 (not-false _ (c .before .before .before .before .before .before .before .before .if5 .left)) .0)
+    let read = c .before .before .before .before .before .before .before .before .before .before .before .read-name .ensures (not-false _ (c .before .before .before .before .before .before .before .before .if5 .left)) in
+    omega (arith, read .inside)
 
 same-length : tie.Need-same-length
 same-length c = search needs
@@ -105,14 +104,11 @@ returns-6 : tie.Need-returns-6
 returns-6 c =
     let a = c .before .before .before .before .before .before .before .before .before .before .before .before .before .before .before .before .before .before .before .before .before .before .before .args in
     let t = c .before .before .before .before .before .before .before .before .before .before .before .before .before .before .before .before .before .before .before .id-end in
-    let r = c .before .before .before .before .before .before .before .before .before .before .before .read-name in
-    let ok = not-false _ (c .before .before .before .before .before .before .before .before .if5 .left) in
-    let place = r .ensures .0 ok in
-    let text = r .ensures .1 ok in
+    let read = c .before .before .before .before .before .before .before .before .before .before .before .read-name .ensures (not-false _ (c .before .before .before .before .before .before .before .before .if5 .left)) in
     record {
       line =
-          λ e. answered (a .s .now) (a .at) (t .ensures) (c .before .before .before .before .before .before .before .before .before .before .before .before .before .before .before .before .before .before .if1 .left) (c .before .before .before .before .before .before .before .before .before .before .before .before .before .before .before .before .if2 .left) (tail-part (a .s .now) _) (omega (arith, place .0)) (place .1) (place .2)
-          (todayWith (a .kanji .now)) (c .before .before .before .before .before .before .before .before .before .before .before .before .before .before .before .if3 .left) (c .before .before .before .before .before .before .before .before .before .before .before .before .before .before .if4 .left) (omega (arith, place .0)) (text .1) (rw head-part at (c .before .before .before .put-text .ensures));
+          λ e. answered (a .s .now) (a .at) (t .ensures) (c .before .before .before .before .before .before .before .before .before .before .before .before .before .before .before .before .before .before .if1 .left) (c .before .before .before .before .before .before .before .before .before .before .before .before .before .before .before .before .if2 .left) (tail-part (a .s .now) _) (omega (arith, read .inside)) (read .ends) (read .plainly)
+          (todayWith (a .kanji .now)) (c .before .before .before .before .before .before .before .before .before .before .before .before .before .before .before .if3 .left) (c .before .before .before .before .before .before .before .before .before .before .before .before .before .before .if4 .left) (omega (arith, read .inside)) (read .text) (rw head-part at (c .before .before .before .put-text .ensures));
       kept = λ e. clash {b = true} refl e;
     }
 

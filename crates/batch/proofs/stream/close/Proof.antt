@@ -3,7 +3,7 @@
 use native.Mathlib.Omega.{arith}
 use Rattle.rules.specs.Editions.{todayWith}
 use Rattle.batch.specs.Answer.{answerTo, badAnswer}
-use Rattle.batch.proofs.Asked.{too-long, writes}
+use Rattle.batch.proofs.Answering.{long-line}
 use Rattle.batch.proofs.Turns.{closes-short, closes-over}
 use borrow.Author.Needs.{needs}
 use Rattle.batch.proofs.stream.close.Statement.{statement}
@@ -28,7 +28,7 @@ returns : tie.Need-returns
 returns c =
     let a = c .before .before .before .before .before .before .before .before .before .before .before .args in
     let P = todayWith (a .kanji .now) in
-    closes-short (answerTo P) badAnswer (too-long P) (a .t2) (omega arith) (writes (c .before .before .answer .ensures))
+    closes-short (answerTo P) badAnswer (long-line P) (a .t2) (omega arith) (c .before .before .answer .ensures)
 
 slice-aggregate-answer : tie.Need-slice-aggregate-answer
 slice-aggregate-answer c = search needs
@@ -43,7 +43,7 @@ returns-2 : tie.Need-returns-2
 returns-2 c =
     let a = c .before .before .before .before .before .before .before .before .args in
     let P = todayWith (a .kanji .now) in
-    closes-over (answerTo P) badAnswer (too-long P) (a .t2) (omega arith) (writes (c .before .before .answer2 .ensures))
+    closes-over (answerTo P) badAnswer (long-line P) (a .t2) (omega arith) (c .before .before .answer2 .ensures)
 
 pub close-spec : {M : Type 1} → statement M
 close-spec =

@@ -1,6 +1,5 @@
 -- `next` meets its contract: the usual line is answered, of another its LF is looked for, and nothing was written before.
 -- Assumes nothing.
-use Rattle.batch.proofs.Asked.{writes}
 use Rattle.batch.proofs.Turns.{next-quick, next-none, next-slow}
 use borrow.Author.Needs.{needs}
 use Rattle.batch.proofs.stream.next.Statement.{statement}
@@ -48,7 +47,7 @@ returns-3 c =
     let other = ended .before .before in
     let quickly = other .before .before .before in
     next-slow (ended .before .find-lf .ensures) (ended .if2 .left) (quickly .before .before .before .before .before .pre .1)
-    (quickly .quick .ensures .kept (other .if1 .left)) (writes (answered .answer .ensures))
+    (quickly .quick .ensures .kept (other .if1 .left)) (answered .answer .ensures)
 
 pub next-spec : {M : Type 1} → statement M
 next-spec =

@@ -6,7 +6,7 @@ use lib.ListN.{length}
 use borrow.Author.Tests.{not-true, not-false}
 use Rattle.rules.specs.Editions.{todayWith}
 use Rattle.batch.specs.Answer.{answerTo, badAnswer}
-use Rattle.batch.proofs.Asked.{too-long}
+use Rattle.batch.proofs.Answering.{long-line}
 use Rattle.batch.proofs.Turns.{Kept, begins, stays, stops, turn, turn-on, turn-fits}
 use borrow.Author.Needs.{needs}
 use Rattle.batch.proofs.stream.scan.Statement.{statement}
@@ -71,7 +71,7 @@ loop-again c =
     let end = c .before .before in
     let line = end .before .before .before .before in
     let loop = line .before .before in
-    turn (loop .before .loop .inv) (loop .loop-test .taken) (line .next .kept .1 .1 .1 .0) (line .next .ensures) (not-false _ (end .if1 .left)) (too-long _)
+    turn (loop .before .loop .inv) (loop .loop-test .taken) (line .next .kept .1 .1 .1 .0) (line .next .ensures) (not-false _ (end .if1 .left)) (long-line _)
 
 same-length-2 : tie.Need-same-length-2 Inv-loop μ-loop
 same-length-2 c = search needs

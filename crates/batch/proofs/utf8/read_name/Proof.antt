@@ -38,10 +38,15 @@ same-length c = search needs
 returns : tie.Need-returns Inv-loop μ-loop
 returns c =
     let k = c .before .before .before .before .before .before .loop .inv .1 in
-    let r = c .said .ensures in (
-      (λ e. (omega (arith, r .2), rw (r .2) (sym (c .before .before .before .wide .ensures .0) ∙ eqb-true _ _ (sym (r .0) ∙ e)), rw (r .2) (k .plainly))),
-      (λ e. (omega (arith, k .few, r .1, r .2), rw (r .1, r .2) (text k))),
-    )
+    let r = c .said .ensures in
+    λ e.
+    record {
+      inside = omega (arith, r .2);
+      ends = rw (r .2) (sym (c .before .before .before .wide .ensures .0) ∙ eqb-true _ _ (sym (r .0) ∙ e));
+      plainly = rw (r .2) (k .plainly);
+      few = omega (arith, k .few, r .1, r .2);
+      text = rw (r .1, r .2) (text k);
+    }
 
 mul-out : tie.Need-mul-out Inv-loop μ-loop
 mul-out c = search needs
@@ -75,7 +80,7 @@ same-length-2 : tie.Need-same-length-2 Inv-loop μ-loop
 same-length-2 c = search needs
 
 returns-2 : tie.Need-returns-2 Inv-loop μ-loop
-returns-2 c = ((λ e. clash e (c .said2 .ensures .0)), (λ e. clash e (c .said2 .ensures .0)))
+returns-2 c = λ e. clash e (c .said2 .ensures .0)
 
 add-if4 : tie.Need-add-if4 Inv-loop μ-loop
 add-if4 c = search needs
@@ -87,7 +92,7 @@ same-length-3 : tie.Need-same-length-3 Inv-loop μ-loop
 same-length-3 c = search needs
 
 returns-3 : tie.Need-returns-3 Inv-loop μ-loop
-returns-3 c = ((λ e. clash e (c .said3 .ensures .0)), (λ e. clash e (c .said3 .ensures .0)))
+returns-3 c = λ e. clash e (c .said3 .ensures .0)
 
 add-wide : tie.Need-add-wide Inv-loop μ-loop
 add-wide c = search needs
@@ -117,7 +122,7 @@ same-length-4 : tie.Need-same-length-4 Inv-loop μ-loop
 same-length-4 c = search needs
 
 returns-4 : tie.Need-returns-4 Inv-loop μ-loop
-returns-4 c = ((λ e. clash e (c .said4 .ensures .0)), (λ e. clash e (c .said4 .ensures .0)))
+returns-4 c = λ e. clash e (c .said4 .ensures .0)
 
 is-tail-requires-2 : tie.Need-is-tail-requires-2 Inv-loop μ-loop
 is-tail-requires-2 c κs = search needs
@@ -129,7 +134,7 @@ same-length-5 : tie.Need-same-length-5 Inv-loop μ-loop
 same-length-5 c = search needs
 
 returns-5 : tie.Need-returns-5 Inv-loop μ-loop
-returns-5 c = ((λ e. clash e (c .said5 .ensures .0)), (λ e. clash e (c .said5 .ensures .0)))
+returns-5 c = λ e. clash e (c .said5 .ensures .0)
 
 mul-out-2 : tie.Need-mul-out-2 Inv-loop μ-loop
 mul-out-2 c = search needs
@@ -175,7 +180,7 @@ same-length-6 : tie.Need-same-length-6 Inv-loop μ-loop
 same-length-6 c = search needs
 
 returns-6 : tie.Need-returns-6 Inv-loop μ-loop
-returns-6 c = ((λ e. clash e (c .said6 .ensures .0)), (λ e. clash e (c .said6 .ensures .0)))
+returns-6 c = λ e. clash e (c .said6 .ensures .0)
 
 pub read-name-spec : {M : Type 1} → statement M
 read-name-spec =

@@ -5,7 +5,8 @@ use Prim.Native.Nat.{_≤_, _-_}
 use native.Mathlib.Omega.{arith}
 use lib.ListN.{length, length-set}
 use lib.Seq.{paste, paste-zero}
-use Rattle.names.proofs.Joining.{octet-at, plain-turn, plain-end}
+use Rattle.lists.proofs.Pieces.{put-turn, put-all}
+use Rattle.names.proofs.Joining.{octet-at}
 use borrow.Author.Needs.{needs}
 use Rattle.names.proofs.ascii.put_plain.Statement.{statement}
 use Rattle.names.proofs.ascii.put_plain.Tie as tie
@@ -44,7 +45,7 @@ loop-again : tie.Need-loop-again Inv-loop μ-loop
 loop-again c =
     let l = c .before .before .loop in
     let a = c .before .before .before .args in
-    (omega arith, length-set (l .out) _ _ ∙ l .inv .1, plain-turn (a .out .now) (l .out) (a .label .now) (a .at) (l .i) (c .before .before .before .pre .1) (omega arith) (l .inv .2))
+    (omega arith, length-set (l .out) _ _ ∙ l .inv .1, put-turn (a .out .now) (l .out) (a .label .now) (a .at) (l .i) (c .before .before .before .pre .1) (omega arith) (l .inv .2))
 
 add-result : tie.Need-add-result Inv-loop μ-loop
 add-result c = search needs
@@ -56,7 +57,7 @@ returns : tie.Need-returns Inv-loop μ-loop
 returns c =
     let l = c .before .loop in
     let a = c .before .before .args in
-    plain-end (a .out .now) (l .out) (a .label .now) (a .at) (l .i) (l .inv .0) (omega arith) (l .inv .2)
+    put-all (a .out .now) (l .out) (a .label .now) (a .at) (l .i) (c .before .before .pre .1) (l .inv .0) (omega arith) (l .inv .2)
 
 pub put-plain-spec : {M : Type 1} → statement M
 put-plain-spec =
