@@ -2,6 +2,7 @@
 ghost use mathlib.Core.Path.{_≡_};
 ghost use mathlib.Core.Bool.{not};
 ghost use Prim.Native.Nat.{ℕ, _+_};
+ghost use lib.Dec.{eqb};
 ghost use lib.ListN.{drop};
 ghost use Rattle.lists.specs.Tests.{firstOf};
 ghost use Rattle.batch.specs.Answer.{idByte, goodId};
@@ -26,18 +27,28 @@ pub enum Parts {
     Other,
 }
 
+// The index of the first byte b from `from` on, or the length.
+pub(crate) fn find(s: &[u8], from: usize, b: u8) -> usize
+    ensures { λ r. ⌜ r ≡ from + firstOf (λ (x : ℕ). eqb x b) (drop from (now (s .entry))) ⌝ }
+{
+    let mut i = from;
+    while i < s.len() {
+        if s[i] == b {
+            return i;
+        }
+        i += 1;
+    }
+    i
+}
+
 // The work: the stretch from `at` up to a tab or the end.
 pub fn field_at(s: &[u8], at: usize) -> Stretch
     ensures { λ r. ⌜ r ≡ fieldAt (now (s .entry)) at ⌝ }
 {
-    let mut i = at;
-    while i < s.len() {
-        if s[i] == TAB {
-            return Stretch { start: at, end: i };
-        }
-        i += 1;
+    Stretch {
+        start: at,
+        end: find(s, at, TAB),
     }
-    Stretch { start: at, end: i }
 }
 
 pub fn new<'a>(line: &'a [u8]) -> LineReader<'a>

@@ -15,6 +15,7 @@ use crate::answer::Next;
 use crate::answer::Wrote;
 use crate::answer::answer;
 use crate::answer::quick;
+use crate::fields::find;
 
 // A line of more bytes is refused.
 const LINE: usize = 1024;
@@ -58,14 +59,7 @@ pub fn new() -> Line
 fn find_lf(s: &[u8], from: usize) -> usize
     ensures { λ r. ⌜ r ≡ from + firstOf lf (drop from (now (s .entry))) ⌝ }
 {
-    let mut i = from;
-    while i < s.len() {
-        if s[i] == b'\n' {
-            return i;
-        }
-        i += 1;
-    }
-    i
+    find(s, from, b'\n')
 }
 
 // The carried line with the bytes of s after it.

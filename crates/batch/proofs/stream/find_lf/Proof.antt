@@ -1,61 +1,16 @@
--- `find_lf` meets its contract: the place that is looked for is the first from i on, until it is i.
+-- `find_lf` meets its contract: an LF is the byte that is looked for.
 -- Assumes nothing.
-use mathlib.Core.Path.{_≡_, refl}
-use Prim.Native.Nat.{_-_, _+_}
-use lib.ListN.{length, drop}
-use borrow.Author.Tests.{eq-eqb, ne-eqb}
-use Rattle.lists.specs.Tests.{firstOf}
-use Rattle.lists.proofs.Scan.{first-here, first-on, first-end}
 use Rattle.batch.specs.Stream.{lf}
 use borrow.Author.Needs.{needs}
 use Rattle.batch.proofs.stream.find_lf.Statement.{statement}
 use Rattle.batch.proofs.stream.find_lf.Tie as tie
 
-abbrev Inv-loop : tie.InvT-loop
-Inv-loop s from i₀ i = from + firstOf lf (drop from s) ≡ i + firstOf lf (drop i s)
+find-requires : tie.Need-find-requires
+find-requires c κs = search needs
 
-abbrev μ-loop : tie.MeasureT-loop
-μ-loop s from i₀ i = length s - i
-
-loop-holds : tie.Need-loop-holds Inv-loop μ-loop
-loop-holds c = refl
-
-shared-slice-read-if1 : tie.Need-shared-slice-read-if1 Inv-loop μ-loop
-shared-slice-read-if1 c = search needs
-
-returns : tie.Need-returns Inv-loop μ-loop
+returns : tie.Need-returns
 unfolding lf
-returns c =
-    let l = c .before .before .before .loop in
-    first-here lf _ (l .i) (c .before .before .loop-test .taken) _ (l .inv) refl (eq-eqb _ _ (c .if1 .taken))
-
-add-i : tie.Need-add-i Inv-loop μ-loop
-add-i c = search needs
-
-loop-less : tie.Need-loop-less Inv-loop μ-loop
-loop-less c = search needs
-
-loop-again : tie.Need-loop-again Inv-loop μ-loop
-unfolding lf
-loop-again c =
-    let l = c .before .before .before .loop in
-    first-on lf _ (l .i) (c .before .before .loop-test .taken) _ (l .inv) refl (ne-eqb _ _ (c .if1 .left))
-
-returns-2 : tie.Need-returns-2 Inv-loop μ-loop
-returns-2 c =
-    let l = c .before .loop in
-    first-end lf _ (l .i) _ (c .loop-test .left) (l .inv)
+returns c = c .find .ensures
 
 pub find-lf-spec : {M : Type 1} → statement M
-find-lf-spec =
-    tie.close
-    (tie.spec
-    Inv-loop
-    μ-loop
-    loop-holds
-    shared-slice-read-if1
-    returns
-    add-i
-    loop-less
-    loop-again
-    returns-2)
+find-lf-spec = tie.close (tie.spec find-requires returns)
