@@ -65,27 +65,27 @@ module _ (answer : List ℕ → List ℕ) (bad : List ℕ) where
       (λ e. by (λ (y : Bool). 0 < pick y (suc (usedFrom answer bad fresh s r)) 1) (leb most r) (λ f. omega arith) (λ f. omega arith))
       (λ e. omega arith))
 
-  -- ---- a session of calls: each takes the line that the last one gave, any bytes and any buffer, and what it did not use comes again
+  -- ---- a sequence of calls: each takes the line that the last one gave, any bytes and any buffer, and what it did not use comes again
 
-  pub data Session : List ℕ → List ℕ → Line → Type 0 where
-    begin : Session [] [] fresh
-    call : {i w : List ℕ} {l : Line} {s before after′ : List ℕ} {r : Fed} → Session i w l → Feeds answer bad l s before after′ r
-        → Session (i ++ take (r .used) s) (w ++ take (r .wrote) after′) (r .line)
+  pub data Calls : List ℕ → List ℕ → Line → Type 0 where
+    begin : Calls [] [] fresh
+    call : {i w : List ℕ} {l : Line} {s before after′ : List ℕ} {r : Fed} → Calls i w l → Feeds answer bad l s before after′ r
+        → Calls (i ++ take (r .used) s) (w ++ take (r .wrote) after′) (r .line)
 
-  session : {i w : List ℕ} {l : Line} → Session i w l → (w ≡ wrote answer bad fresh i) × (l ≡ after fresh i)
+  called : {i w : List ℕ} {l : Line} → Calls i w l → (w ≡ wrote answer bad fresh i) × (l ≡ after fresh i)
   unfolding wrote after
-  session begin = (refl, refl)
-  session (call {i} {w} {l} {s} {r = r} k f) =
-      let h = session k in
+  called begin = (refl, refl)
+  called (call {i} {w} {l} {s} {r = r} k f) =
+      let h = called k in
       let t : List ℕ = take (r .used) s in
       (rw (at-front (f .text), h .0, h .1) (sym (wrote-append answer bad fresh i t)), f .next ∙ rw (h .1) (sym (after-append fresh i t)))
 
-  -- THE THEOREM for the code: what was used by a session's calls, and then its end, wrote the batch of it
-  pub session-is-batch : ((l : List ℕ) → 1024 < length l → answer l ≡ bad)
-      → {i w : List ℕ} {l : Line} {before after′ : List ℕ} {r : Finished} → Session i w l → Finishes answer bad l before after′ r → r .done ≡ true
+  -- THE THEOREM for the code: what was used by a sequence of calls, and then its end, wrote the batch of it
+  pub calls-are-batch : ((l : List ℕ) → 1024 < length l → answer l ≡ bad)
+      → {i w : List ℕ} {l : Line} {before after′ : List ℕ} {r : Finished} → Calls i w l → Finishes answer bad l before after′ r → r .done ≡ true
       → w ++ take (r .wrote) after′ ≡ batch answer i
-  session-is-batch over {i} {w} {l} {before} {after′} {r} k f d =
-      let h = session k in
+  calls-are-batch over {i} {w} {l} {before} {after′} {r} k f d =
+      let h = called k in
       let e : leb most (length before) ≡ true = sym (f .done) ∙ d in
       let t : take (r .wrote) after′ ≡ ended answer bad l = at-front (rw e at (f .text)) in
       rw (t, h .0, h .1) (sym (whole answer bad over i))
@@ -95,7 +95,7 @@ pub again : (l : Line) (s : List ℕ) (u : ℕ) → after l s ≡ after (after l
 again l s u = ap (after l) (sym (take-append-drop u s)) ∙ after-append l (take u s) (drop u s)
 
 -- and at the answers of the edition with this table of kanji
-pub batch-of : (table : List ℕ) {i w : List ℕ} {l : Line} {before after′ : List ℕ} {r : Finished} → Session (answerTo (todayWith table)) badAnswer i w l
+pub batch-of : (table : List ℕ) {i w : List ℕ} {l : Line} {before after′ : List ℕ} {r : Finished} → Calls (answerTo (todayWith table)) badAnswer i w l
     → Finishes (answerTo (todayWith table)) badAnswer l before after′ r → r .done ≡ true
     → w ++ take (r .wrote) after′ ≡ batch (answerTo (todayWith table)) i
-batch-of table = session-is-batch (answerTo (todayWith table)) badAnswer (long-line (todayWith table))
+batch-of table = calls-are-batch (answerTo (todayWith table)) badAnswer (long-line (todayWith table))

@@ -50,10 +50,6 @@ module _ (line : List ℕ) (f g : Stretch) (ef : f ≡ fieldAt line 0) where
 
 -- ---- a byte of an id
 
--- what is none
-abbrev pub noId : ℕ → Bool
-noId b = not (idByte b)
-
 module _ (b : ℕ) where
   pub upper : 0x41 ≤ b → b ≤ 0x5A → true ≡ idByte b
   unfolding idByte

@@ -1,7 +1,7 @@
 // The answer to a line: id, number, place, class and ASCII form, tab-parted and ended by LF.
 use crate::fields::Parts;
 use crate::fields::TAB;
-use crate::fields::id_end;
+use crate::fields::field_from;
 use crate::fields::is_id;
 use crate::fields::split;
 use crate::utf8::decode;
@@ -229,22 +229,26 @@ fn unusual() -> Next
     }
 }
 
+// An id and its tab are in the 33 bytes from `at` on, so no tab is looked for past these.
+fn id_reach(n: usize, at: usize) -> usize
+    requires { ⌜ at ≤ n ⌝ }
+    ensures { λ r. ⌜ (at ≤ r) × (r ≤ n) × (r ≤ at + 33) ⌝ }
+{
+    if n - at < 33 { n } else { at + 33 }
+}
+
 // Answers the usual line, straight from the input, up to its LF. Of another nothing is said, and nothing is written for it.
 pub(crate) fn quick(kanji: &[u32], s: &[u8], at: usize, out: &mut [u8]) -> Next
     requires { ⌜ (at ≤ length (now s)) × (256 ≤ length (now out)) ⌝ }
     ensures { λ r. ⌜ Quick (answerTo (todayWith (now (kanji .entry)))) (now (s .entry)) at (now (out .entry)) (now (out .exit)) r ⌝ }
 {
-    let tab = id_end(s, at);
-    if s.len() <= tab {
+    let reach = id_reach(s.len(), at);
+    let id = field_from(&s[0..reach], at);
+    let tab = id.end;
+    if reach <= tab {
         return unusual();
     }
-    if s[tab] != TAB {
-        return unusual();
-    }
-    if tab == at {
-        return unusual();
-    }
-    if 32 < tab - at {
+    if !is_id(&s[at..tab]) {
         return unusual();
     }
     let mut text = [0u32; 64];

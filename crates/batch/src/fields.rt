@@ -1,6 +1,5 @@
 // The fields of a line, an id and a name with one tab between them, by a line reader that holds the lent line and the place reached.
 ghost use mathlib.Core.Path.{_≡_};
-ghost use mathlib.Core.Bool.{not};
 ghost use Prim.Native.Nat.{ℕ, _+_};
 ghost use lib.Dec.{eqb};
 ghost use lib.ListN.{drop};
@@ -120,18 +119,4 @@ pub fn is_id(id: &[u8]) -> bool
         i += 1;
     }
     true
-}
-
-// The index of the first byte from `from` on that is none of an id, or the length.
-pub(crate) fn id_end(s: &[u8], from: usize) -> usize
-    ensures { λ r. ⌜ r ≡ from + firstOf (λ (b : ℕ). not (idByte b)) (drop from (now (s .entry))) ⌝ }
-{
-    let mut i = from;
-    while i < s.len() {
-        if !is_id_byte(s[i]) {
-            return i;
-        }
-        i += 1;
-    }
-    i
 }
