@@ -2,9 +2,9 @@
 
 pub const NUMBERS: usize = 17;
 
-/// The numbers in one answer line. A second reader's answer has one field
-/// only and holds no number. A batch's answer begins with an octet of an id or
-/// with a hyphen, so its first field never reads as 0 to 16.
+/// The numbers in one answer line. An answer of one or two fields is all yes
+/// and no and holds no number. A batch's answer begins with an octet of an id
+/// or with a hyphen, so its first field never reads as 0 to 16.
 fn numbers_in(line: &str) -> Vec<usize> {
     let fields: Vec<&str> = line.split(' ').collect();
     if fields.len() < 3 {

@@ -8,7 +8,7 @@ use crate::normal::labels;
 use crate::points;
 
 /// What the second reader has learned of the label so far.
-#[derive(Default)]
+#[derive(Clone, Copy, Default, PartialEq, Eq, Hash)]
 struct Seen {
     count: usize,
     japanese: bool,
@@ -37,27 +37,49 @@ impl Seen {
 }
 
 /// Where the second reader stands in the label.
+#[derive(Clone, Copy, Default, PartialEq, Eq, Hash)]
 enum Standing {
+    #[default]
     AtStart,
     AfterCharacter,
     AfterHyphen,
 }
 
-/// The second reader of labels: a machine that stands after a character or
-/// after a hyphen.
-pub fn second_reader(label: &[u32]) -> bool {
-    let mut seen = Seen::default();
-    let mut standing = Standing::AtStart;
-    for code in label {
-        let character = is_letter_or_digit(*code) || is_japanese(*code);
-        standing = match standing {
+/// The second reader within a label: a machine that stands after a character
+/// or after a hyphen.
+#[derive(Clone, Copy, Default, PartialEq, Eq, Hash)]
+pub struct Reader {
+    standing: Standing,
+    seen: Seen,
+}
+
+impl Reader {
+    /// The reader one character on, or none where no label goes on so.
+    pub fn step(mut self, code: u32) -> Option<Reader> {
+        let character = is_letter_or_digit(code) || is_japanese(code);
+        self.standing = match self.standing {
             _ if character => Standing::AfterCharacter,
-            Standing::AfterCharacter | Standing::AfterHyphen if *code == HYPHEN => Standing::AfterHyphen,
-            _ => return false,
+            Standing::AfterCharacter | Standing::AfterHyphen if code == HYPHEN => Standing::AfterHyphen,
+            _ => return None,
         };
-        seen.note(*code);
+        self.seen.note(code);
+        Some(self)
     }
-    matches!(standing, Standing::AfterCharacter) && seen.may_end()
+
+    /// Whether what was read is a whole label.
+    pub fn may_end(&self) -> bool {
+        matches!(self.standing, Standing::AfterCharacter) && self.seen.may_end()
+    }
+}
+
+/// The second reader at the end of what was begun of a label.
+pub fn read(begun: &[u32]) -> Option<Reader> {
+    begun.iter().try_fold(Reader::default(), |reader, code| reader.step(*code))
+}
+
+/// The second reader of labels.
+pub fn second_reader(label: &[u32]) -> bool {
+    read(label).is_some_and(|reader| reader.may_end())
 }
 
 /// Spells a label in letters for the grammar's kinds: a ALNUM, - hyphen,

@@ -10,6 +10,7 @@ pub mod chars;
 pub mod coder;
 pub mod count;
 pub mod grammar;
+pub mod hope;
 pub mod live;
 pub mod name;
 pub mod normal;

@@ -1,7 +1,9 @@
 //! The live check: it shows, after each code point, what the check says of
-//! all that was read, and the normal form of it.
+//! all that was read, and the normal form of it. It also says whether that may
+//! yet become a name.
 
 use crate::answer::Class;
+use crate::hope;
 use crate::name::{self, LONGEST_TEXT};
 use crate::normal::normal_form;
 
@@ -44,5 +46,9 @@ impl Live {
         let mut text = [0; LONGEST_TEXT];
         text[..normal.len()].copy_from_slice(&normal);
         Shown { number, place, class, length: normal.len(), text }
+    }
+
+    pub fn may_become(&self) -> bool {
+        hope::may_become(&self.read)
     }
 }

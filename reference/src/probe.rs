@@ -5,6 +5,7 @@ use crate::answer::{Answer, Class};
 use crate::batch;
 use crate::calls;
 use crate::grammar;
+use crate::hope;
 use crate::live::Live;
 use std::fmt::LowerHex;
 
@@ -39,6 +40,7 @@ fn read_and_answer(line: &[u8]) -> Option<String> {
         }
         "S" => u8::from(grammar::second_reader(&numbers)).to_string(),
         "L" => live(&numbers),
+        "M" => hopes(&numbers),
         "B" => hex_list(&batch::desk(&octets()?)),
         _ => return None,
     })
@@ -104,4 +106,17 @@ fn live(numbers: &[u32]) -> String {
         0 => head,
         _ => format!("{head} {}", hex_list(&shown.text[..end])),
     }
+}
+
+/// A flag for every state of the live check, then those of the three ways to
+/// ask it of the whole text. Here they are one.
+fn hopes(numbers: &[u32]) -> String {
+    let flag = |hope: bool| if hope { "1" } else { "0" };
+    let mut state = Live::fresh();
+    let mut run = flag(state.may_become()).to_string();
+    for code in numbers {
+        state.step(*code);
+        run += flag(state.may_become());
+    }
+    format!("{run} {}", flag(hope::may_become(numbers)).repeat(3))
 }

@@ -1,5 +1,7 @@
 //! No accepted name is refused with 14: a Japanese label of at most fifteen
-//! characters never encodes to more than 62 octets.
+//! characters never encodes to more than 62 octets. The product's proofs say
+//! at most 63, which is all that 14 asks; this is the independent witness, and
+//! the sharper bound.
 //!
 //! The test does not try labels. It goes through the coder's states, code
 //! point by code point, and keeps for each bias and each count of digits the

@@ -11,9 +11,9 @@ use Rattle.characters.specs.Replace.{ranges, rangeIn, halfKana, isHalf, replace
 use Rattle.normal.specs.Normal.{replacedFrom, compose, normalPlaced, normalForm, places}
 use Rattle.punycode.specs.Calls.{coderNumber}
 use Rattle.punycode.specs.Punycode.{digit, adaptLoop, damped, adapt, threshold, varint, add, emit, point, points, nearer, least, passes, below, delimiter, initial, extended, encode, ace, ldh, wide, allowed, encodable}
-use Rattle.rules.specs.Editions.{isPrefecture, today}
+use Rattle.rules.specs.Editions.{today}
 use Rattle.rules.specs.Labels.{period, onto, labels, join}
-use Rattle.rules.specs.Permits.{labelChar, isEmpty}
+use Rattle.rules.specs.Permits.{labelChar, middle, isEmpty}
 use Rattle.rules.specs.Prefectures.{prefectures}
 use Rattle.rules.specs.Rules.{unfit, middleDot, ordinary, isJapanese, beginsWithHyphen, endsWithHyphen, hyphenEdge, short, long, bareDot, labelRows, jp, nameRows, textRows, verdict}
 use Rattle.names.specs.Calls.{asciiLabel, asciiForm, uncoded, asciiRows}
@@ -34,5 +34,5 @@ output =
     (0x61 ∷ 0x33 ∷ 0x09 ∷ 0x30 ∷ 0x09 ∷ 0x30 ∷ 0x09 ∷ 0x50 ∷ 0x09 ∷ 0x78 ∷ 0x6E ∷ 0x2D ∷ 0x2D ∷ 0x6C ∷ 0x38 ∷ 0x6A ∷ 0x2E ∷ 0x74 ∷ 0x6F ∷ 0x6B ∷ 0x79 ∷ 0x6F ∷ 0x2E ∷ 0x6A ∷ 0x70 ∷ 0x0A ∷ [])
 
 pub printed : batch (answerTo today) input ≡ output
-unfolding input output first within allOf anyOf firstOf elem same Rattle.characters.specs.Characters.alnum hyphen asciiSet hiragana katakana signs japaneseBy japanese voiced repeats halfVoiced eitherKana composed kanji ranges rangeIn Rattle.characters.specs.Replace.classOf halfKana isHalf replaceIn replace replacedFrom compose normalPlaced normalForm places coderNumber digit adaptLoop damped adapt threshold varint add emit point points nearer least passes below delimiter initial extended encode ace Rattle.punycode.specs.Punycode.alnum ldh wide allowed encodable isPrefecture today period onto labels join labelChar isEmpty prefectures unfit middleDot ordinary isJapanese beginsWithHyphen endsWithHyphen hyphenEdge short long bareDot labelRows jp nameRows textRows Rattle.rules.specs.Rules.classOf verdict asciiLabel asciiForm uncoded asciiRows tab idOf nameOf oneTab idByte goodId badLine decimalBy decimal letter answerLine goodAnswer answerTo linesFrom lines answers batch scalar whole decodeFrom
+unfolding input output first within allOf anyOf firstOf elem same Rattle.characters.specs.Characters.alnum hyphen asciiSet hiragana katakana signs japaneseBy japanese voiced repeats halfVoiced eitherKana composed kanji ranges rangeIn Rattle.characters.specs.Replace.classOf halfKana isHalf replaceIn replace replacedFrom compose normalPlaced normalForm places coderNumber digit adaptLoop damped adapt threshold varint add emit point points nearer least passes below delimiter initial extended encode ace Rattle.punycode.specs.Punycode.alnum ldh wide allowed encodable middle today period onto labels join labelChar isEmpty prefectures unfit middleDot ordinary isJapanese beginsWithHyphen endsWithHyphen hyphenEdge short long bareDot labelRows jp nameRows textRows Rattle.rules.specs.Rules.classOf verdict asciiLabel asciiForm uncoded asciiRows tab idOf nameOf oneTab idByte goodId badLine decimalBy decimal letter answerLine goodAnswer answerTo linesFrom lines answers batch scalar whole decodeFrom
 printed = refl

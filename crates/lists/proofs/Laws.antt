@@ -7,6 +7,7 @@ use mathlib.Core.Logic.{_⊎_, inl, inr, ⊎-elim}
 use Prim.Native.Nat.{ℕ, zero, suc, _≤_, _<_}
 use native.Mathlib.Omega.{arith}
 use lib.Dec.{eqb, leb}
+use lib.ListN.{length}
 use borrow.Author.Tests.{le-leb, leb-true, eqb-true, eq-eqb}
 use Rattle.lists.specs.Tests.{within, allOf, anyOf, elem, same}
 
@@ -91,15 +92,36 @@ all-none f g imp (x ∷ xs) e =
     let p = both (f x) (allOf f xs) e in
     rw (imp x (p .0)) (all-none f g imp xs (p .1))
 
--- what holds of every entry of a table holds of each number that is in it
+-- where f holds of one, so does what f implies, and there is one
+module _ {A : Type 0} (f : A → Bool) where
+  pub any-weaker : (g : A → Bool) (imp : (c : A) → f c ≡ true → g c ≡ true) (l : List A) → anyOf f l ≡ true → anyOf g l ≡ true
+  unfolding anyOf
+  any-weaker g imp [] e = e
+  any-weaker g imp (x ∷ xs) e = go (f x) refl e (any-weaker g imp xs)
+    where
+      go : (b : Bool) → f x ≡ b → b || anyOf f xs ≡ true → (anyOf f xs ≡ true → anyOf g xs ≡ true) → g x || anyOf g xs ≡ true
+      go true p q on = or-left (g x) _ (imp x p)
+      go false p q on = or-right (g x) _ (on q)
+
+  pub any-some : (l : List A) → anyOf f l ≡ true → 1 ≤ length l
+  unfolding anyOf
+  any-some [] e = absurd (false≢true e)
+  any-some (x ∷ xs) e = omega arith
+
+-- what holds of every entry of a table holds of c, where a test that only c passes holds of one of them
+module _ {A : Type 0} (c : A) (is : A → Bool) (only : (x : A) → is x ≡ true → c ≡ x) (f : A → Bool) where
+  in-listed : (l : List A) → allOf f l ≡ true → anyOf is l ≡ true → f c ≡ true
+  unfolding allOf anyOf
+  in-listed [] w e = absurd (false≢true e)
+  in-listed (x ∷ xs) w e = go (is x) refl e (in-listed xs (both (f x) (allOf f xs) w .1))
+    where
+      go : (b : Bool) → is x ≡ b → b || anyOf is xs ≡ true → (anyOf is xs ≡ true → f c ≡ true) → f c ≡ true
+      go true p h on = rw (only x p) (both (f x) (allOf f xs) w .0)
+      go false p h on = on h
+
 pub in-table : (f : ℕ → Bool) (c : ℕ) (l : List ℕ) → allOf f l ≡ true → elem c l ≡ true → f c ≡ true
-unfolding allOf anyOf elem
-in-table f c [] w e = absurd (false≢true e)
-in-table f c (x ∷ xs) w e = go (eqb c x) refl e (in-table f c xs (both (f x) (allOf f xs) w .1))
-  where
-    go : (b : Bool) → eqb c x ≡ b → b || anyOf (eqb c) xs ≡ true → (anyOf (eqb c) xs ≡ true → f c ≡ true) → f c ≡ true
-    go true p h on = rw (eqb-true c x p) (both (f x) (allOf f xs) w .0)
-    go false p h on = on h
+unfolding elem
+in-table f c l w e = in-listed c (eqb c) (eqb-true c) f l w e
 
 -- ---- the same list
 
@@ -114,3 +136,7 @@ same-is [] [] e = refl
 same-is [] (y ∷ ys) e = absurd (false≢true e)
 same-is (x ∷ xs) [] e = absurd (false≢true e)
 same-is (x ∷ xs) (y ∷ ys) e = let p = both (eqb x y) (same xs ys) e in rw (eqb-true x y (p .0), same-is xs ys (p .1))
+
+-- what holds of every list of a table holds of each that is in it
+pub in-lists : (f : List ℕ → Bool) (l : List ℕ) (table : List (List ℕ)) → allOf f table ≡ true → anyOf (same l) table ≡ true → f l ≡ true
+in-lists f l table w e = in-listed l (same l) (same-is l) f table w e

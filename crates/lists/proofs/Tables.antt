@@ -51,6 +51,18 @@ accepted-clear (r ∷ rs) w e =
     go true p w e on = absurd (omega (arith, ltb-true 0 (r .number) w))
     go false p w e on = (p, on e)
 
+-- what 0 and the number of every row pass, the answer's number passes
+pub numbered : (f : ℕ → Bool) → f 0 ≡ true → (rs : List Row) → allOf (λ (r : Row). f (r .number)) rs ≡ true → f (first rs .number) ≡ true
+unfolding first allOf
+numbered f z [] w = z
+numbered f z (r ∷ rs) w =
+    let k = both (f (r .number)) (allOf (λ (s : Row). f (s .number)) rs) w in
+    go (r .applies) (k .0) (numbered f z rs (k .1))
+  where
+    go : (b : Bool) → f (r .number) ≡ true → f (first rs .number) ≡ true → f ((pick b (record { number = r .number; place = r .place }) (first rs)) .number) ≡ true
+    go true p q = p
+    go false p q = q
+
 -- ---- what is given
 
 pub given-all : (a : Answer) (xs : List ℕ) → a .number ≡ 0 → given a xs ≡ xs

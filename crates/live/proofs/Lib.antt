@@ -1,3 +1,4 @@
 pub mod Typing
 mod Looking
 pub mod Nightly
+pub mod Hope

@@ -1,4 +1,6 @@
--- The live check: document 01, 'The live check'. A state, what a step makes of it, and what a look shows, of any state.
+-- The live check: document 01, 'The live check'. A state, what a step makes of it, what a look shows, and whether what was typed may yet
+-- become a name, of any state.
+use mathlib.Core.Bool.{Bool, false}
 use mathlib.Core.List.{List, [], _∷_}
 use Prim.Native.Nat.{ℕ, _+_}
 use lib.Dec.{ltb}
@@ -7,6 +9,7 @@ use Rattle.lists.specs.Tests.{pick}
 use Rattle.names.specs.Calls.{judged}
 use Rattle.names.specs.declared.Judged.{Judged}
 use Rattle.rules.specs.Permits.{Permits}
+use Rattle.rules.specs.Hopeful.{hopeful}
 use Rattle.rules.specs.declared.Class.the-variants.{None}
 use Rattle.live.specs.declared.Live.{Live}
 
@@ -36,3 +39,7 @@ tooLong = record { number = 3; place = 256; class = None; form = replicate 256 0
 
 unfoldable pub looked : Permits → Live → Judged
 looked P l = lookedBy (judged P) tooLong l
+
+-- whether what was typed may yet become a name; past 256 it may not
+unfoldable pub hoped : Permits → Live → Bool
+hoped P l = lookedBy (hopeful P) false l

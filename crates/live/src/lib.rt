@@ -1,9 +1,10 @@
 // The live check: a state that takes one code point at a time and shows, after each, what the nightly rules say of the text so far.
-// It keeps the text and no second set of rules: a look hands the text to `names`. Its meaning is defined in specs/Live; that what it
-// shows is what the nightly rules say is proofs/Nightly.
+// Beside it stands whether that text may yet become a name. It keeps the text and no second set of rules: each call hands the text to
+// `names`. Its meaning is defined in specs/Live; that what it shows is what the nightly rules say is proofs/Nightly, and that it says no
+// exactly where no continuation is accepted, proofs/Hope.
 ghost use mathlib.Core.Path.{_≡_};
 ghost use Rattle.rules.specs.Editions.{today, todayWith};
-ghost use Rattle.live.specs.Live.{fresh, stepped, tooLong, looked};
+ghost use Rattle.live.specs.Live.{fresh, stepped, tooLong, looked, hoped};
 
 // The code points typed, and how many; 257 stands for more than 256, however many.
 pub struct Live {
@@ -65,5 +66,24 @@ impl Live {
     {
         let kanji = characters::KANJI;
         self.look_with(&kanji)
+    }
+
+    // May what was typed yet become a name? The table of kanji is lent.
+    pub fn may_become_with(self, kanji: &[u32]) -> bool
+        ensures { λ r. ⌜ r ≡ hoped (todayWith (now (kanji .entry))) self ⌝ }
+    {
+        let n = self.count;
+        if 256 < n {
+            return false;
+        }
+        let whole: &[u32] = &self.text;
+        names::may_become_with(kanji, &whole[0..n])
+    }
+
+    pub fn may_become(self) -> bool
+        ensures { λ r. ⌜ r ≡ hoped today self ⌝ }
+    {
+        let kanji = characters::KANJI;
+        self.may_become_with(&kanji)
     }
 }

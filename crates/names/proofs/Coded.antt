@@ -1,50 +1,39 @@
--- Of a name that the edition accepts the coder never answers 13: its characters are a to z, 0 to 9, hyphen, or Japanese ones, which
--- stand from 3005 to 9FA0, where there are only scalar values; so row 14 says that an encoding has over 63 octets, and no more.
+-- Of a name that an edition accepts the coder takes every Japanese label: it has at most 15 characters, each of the ASCII set or from 3003 to
+-- 9FA0, where there are only scalar values, and the encoding of such a label has at most 63 octets (punycode, proofs/Bound). So neither 13 nor
+-- 14 comes of an accepted name: row 14 never applies, and with room its ASCII form is given.
 -- Assumes nothing.
-use mathlib.Core.Path.{_≡_, refl, sym}
-use mathlib.Core.Bool.{Bool, true, false, not, _&&_, _||_, false≢true}
-use mathlib.Core.List.{List, [], _∷_}
+use mathlib.Core.Path.{_≡_, refl, sym, ap, _∙_}
+use mathlib.Core.Bool.{Bool, true, false, not, _&&_, _||_, or-true}
+use mathlib.Core.List.{List, [], _∷_, _++_}
 use Prim.Native.Nat.{ℕ, _≤_}
 use native.Mathlib.Omega.{arith}
 use lib.Dec.{eqb, leb, ltb}
 use lib.ListN.{length}
-use borrow.Author.Tests.{ltb-false, le-leb, lt-ltb, le-ltb, leb-true, leb-false}
-use Rattle.lists.specs.Tests.{pick, within, allOf, anyOf, elem}
-use Rattle.lists.proofs.Laws.{both, or-left, or-right, inside, outside, in-range, in-table, all-weaker}
-use Rattle.characters.specs.Kanji.{kanji}
-use Rattle.characters.specs.Characters.{alnum, hyphen, asciiSet, hiragana, katakana, signs, japaneseBy, japanese}
+use borrow.Author.Tests.{eqb-true, eqb-false, ltb-false, le-leb, lt-ltb, le-ltb, not-true}
+use Rattle.lists.specs.Tests.{pick, within, allOf, anyOf}
+use Rattle.lists.specs.Front.{written}
+use Rattle.lists.specs.Rows.{Row, row, Answer, accepted, first, given}
+use Rattle.lists.proofs.Laws.{or-left, or-right, inside, outside, in-range, all-weaker, all-none, any-weaker, any-some}
+use Rattle.lists.proofs.Tables.{clear, clear-before, hit, passed-over, numbered}
+use Rattle.characters.specs.Characters.{alnum, hyphen, asciiSet}
 use Rattle.normal.specs.Normal.{normalForm}
 use Rattle.punycode.specs.Punycode.{ace, ldh, wide, allowed, encodable}
 use Rattle.punycode.specs.Punycode as Puny
 use Rattle.punycode.specs.Calls.{coderNumber}
+use Rattle.punycode.proofs.Bound.{near, encodable-short}
 use Rattle.rules.specs.Labels.{labels}
-use Rattle.rules.specs.Permits.{labelChar}
-use Rattle.rules.specs.Rules.{isJapanese, long, jp, verdict, rules}
+use Rattle.rules.specs.Permits.{Permits, labelChar, middle}
+use Rattle.rules.specs.Rules.{isJapanese, long, jp, labelRows, nameRows, textRows, verdict, rules}
 use Rattle.rules.specs.Editions.{today}
-use Rattle.names.specs.Calls.{uncoded}
+use Rattle.rules.proofs.Sound.{ascii-range}
+use Rattle.rules.proofs.Derived.{middle-length}
+use Rattle.rules.proofs.Steps.{refused-before}
+use Rattle.rules.proofs.Today.{today-laws}
+use Rattle.names.specs.Calls.{checked, uncoded, asciiForm, asciiRows, AsciiForms}
+use Rattle.names.specs.declared.Checked.{Checked}
 use Rattle.names.proofs.Answering.{cleared}
-use Rattle.names.proofs.Enough.{each-label, middle-size}
+use Rattle.names.proofs.Enough.{each-label}
 use Rattle.names.proofs.OfLabel.{either}
-
--- ---- where Japanese characters stand
-
-signs-within : allOf (within 0x3005 0x9FA0) signs ≡ true
-unfolding allOf within signs
-signs-within = refl
-
-kanji-within : allOf (within 0x3005 0x9FA0) kanji ≡ true
-unfolding allOf within kanji
-kanji-within = refl
-
-japanese-range : (c : ℕ) → japanese c ≡ true → (0x3005 ≤ c) × (c ≤ 0x9FA0)
-unfolding japanese japaneseBy hiragana katakana
-japanese-range c e =
-    either (within 0x3041 0x3093 c) _ e (λ p. let h = in-range 0x3041 0x3093 c p in omega arith)
-    (λ f. either (within 0x30A1 0x30F6 c) _ f (λ p. let h = in-range 0x30A1 0x30F6 c p in omega arith)
-    (λ g. either (elem c signs) _ g (λ p. in-range 0x3005 0x9FA0 c (in-table (within 0x3005 0x9FA0) c signs signs-within p))
-    (λ p. in-range 0x3005 0x9FA0 c (in-table (within 0x3005 0x9FA0) c kanji kanji-within p))))
-
--- ---- what a label may hold, the coder takes
 
 ascii-allowed : (c : ℕ) → asciiSet c ≡ true → ldh c ≡ true
 unfolding asciiSet alnum hyphen ldh Puny.alnum
@@ -53,80 +42,120 @@ ascii-allowed c e =
     (λ p. or-left _ _ (either (within 0x30 0x39 c) _ p (λ q. or-right (within 0x61 0x7A c) _ q) (λ q. or-left (within 0x61 0x7A c) _ q)))
     (λ p. or-right (within 0x61 0x7A c || within 0x30 0x39 c) _ p)
 
-japanese-wide : (c : ℕ) → japanese c ≡ true → wide c ≡ true
-unfolding wide
-japanese-wide c e =
-    let h = japanese-range c e in
-    rw (inside 0x80 0x10FFFF c (omega arith) (omega arith), outside 0xD800 0xDFFF c (λ p q. omega arith))
+module _ (P : Permits) (stretch : (c : ℕ) → P .japanese c ≡ true → within 0x3003 0x9FA0 c ≡ true) where
+  -- ---- a character
 
-label-allowed : (c : ℕ) → labelChar today c ≡ true → allowed c ≡ true
-unfolding labelChar today allowed
-label-allowed c e = either (japanese c) _ e (λ p. or-right (ldh c) _ (japanese-wide c p)) (λ p. or-left _ (wide c) (ascii-allowed c p))
+  module _ (c : ℕ) (e : labelChar P c ≡ true) where
+    char-near : near c ≡ true
+    unfolding labelChar near
+    char-near = either (P .japanese c) _ e
+        (λ p. or-right (ltb c 0x80) _ (stretch c p))
+        (λ p. let h = ascii-range c p in or-left (ltb c 0x80) _ (lt-ltb c 0x80 (omega arith)))
 
--- ---- a Japanese label of an accepted name
+    char-allowed : allowed c ≡ true
+    unfolding labelChar allowed wide
+    char-allowed = either (P .japanese c) _ e
+        (λ p.
+        let h = in-range 0x3003 0x9FA0 c (stretch c p) in
+        or-right (ldh c) _ (rw (inside 0x80 0x10FFFF c (omega arith) (omega arith), outside 0xD800 0xDFFF c (λ x y. omega arith))))
+        (λ p. or-left (ldh c) _ (ascii-allowed c p))
 
-some-wide : (l : List ℕ) → anyOf japanese l ≡ true → (anyOf (leb 0x80) l ≡ true) × (1 ≤ length l)
-unfolding anyOf
-some-wide [] e = absurd (false≢true e)
-some-wide (x ∷ xs) e =
-    (either (japanese x) _ e (λ p. or-left _ _ (le-leb 0x80 x (let h = japanese-range x p in omega arith))) (λ p. or-right (leb 0x80 x) _ (some-wide xs p .0)), omega arith)
+  japanese-high : (c : ℕ) → P .japanese c ≡ true → leb 0x80 c ≡ true
+  japanese-high c p = let h = in-range 0x3003 0x9FA0 c (stretch c p) in le-leb 0x80 c (omega arith)
 
--- where it is Japanese, it is encodable
-unfoldable pub coderFit : List ℕ → Bool
-coderFit l = not (isJapanese today l) || encodable l
+  -- ---- a label
 
-label-fit : (l : List ℕ) → allOf (labelChar today) l ≡ true → (isJapanese today l ≡ true → length l ≤ 63) → coderFit l ≡ true
-unfolding coderFit encodable isJapanese today
-label-fit l a k = go (anyOf japanese l) refl
-  where
-    go : (j : Bool) → anyOf japanese l ≡ j → not (anyOf japanese l) || (within 1 63 (length l) && (allOf allowed l && anyOf (leb 0x80) l)) ≡ true
-    go false p = rw p
-    go true p =
-        let w = some-wide l p in
-        rw (p, inside 1 63 (length l) (w .1) (k p), all-weaker (labelChar today) allowed label-allowed l a, w .0)
+  module _ (l : List ℕ) (a : allOf (labelChar P) l ≡ true) (j : isJapanese P l ≡ true) (few : length l ≤ 15) where
+    label-encodable : encodable l ≡ true
+    unfolding encodable isJapanese
+    label-encodable =
+        rw (inside 1 63 (length l) (any-some (P .japanese) l j) (omega arith), all-weaker (labelChar P) allowed char-allowed l a)
+        (any-weaker (P .japanese) (leb 0x80) japanese-high l j)
 
-left-size : (l : List ℕ) → long today l ≡ false → isJapanese today l ≡ true → length l ≤ 63
-unfolding long
-left-size l e p = let h = ltb-false 15 (length l) (rw p at e) in omega arith
+    -- the coder takes a Japanese label of at most 15 characters
+    pub label-coded : coderNumber l 63 ≡ 0
+    unfolding coderNumber
+    label-coded =
+        let size = encodable-short l label-encodable few (all-weaker (labelChar P) near char-near l a) in
+        rw (label-encodable, le-leb (length (ace l)) 63 size)
 
-jp-fit : coderFit jp ≡ true
-unfolding coderFit isJapanese today jp anyOf japanese japaneseBy hiragana katakana signs elem within kanji
-jp-fit = refl
+  label-fine : (l : List ℕ) → allOf (labelChar P) l ≡ true → (isJapanese P l ≡ true → length l ≤ 15) → not (uncoded P l) ≡ true
+  unfolding uncoded
+  label-fine l a k = go (isJapanese P l) refl
+    where
+      go : (j : Bool) → isJapanese P l ≡ j → not (isJapanese P l && not (eqb (coderNumber l 63) 0)) ≡ true
+      go false p = rw p
+      go true p = rw (p, label-coded l a p (k p))
 
--- what the coder says of such a label: 0, or 14 where its encoding has over 63 octets
-pub coder-says : (l : List ℕ) → coderFit l ≡ true → isJapanese today l ≡ true → coderNumber l 63 ≡ pick (leb (length (ace l)) 63) 0 14
-unfolding coderFit coderNumber
-coder-says l e p = rw (rw p at e)
+  left-size : (l : List ℕ) → long P l ≡ false → isJapanese P l ≡ true → length l ≤ 15
+  unfolding long
+  left-size l e p = ltb-false 15 (length l) (rw p at e)
 
-unfoldable pub over : List ℕ → Bool
-over l = isJapanese today l && ltb 63 (length (ace l))
+  -- ---- a name
 
-uncoded-over : (l : List ℕ) → coderFit l ≡ true → uncoded today l ≡ over l
-unfolding uncoded over
-uncoded-over l e = go (isJapanese today l) refl
-  where
-    longer : (t : Bool) → leb (length (ace l)) 63 ≡ t → not (eqb (pick t 0 14) 0) ≡ ltb 63 (length (ace l))
-    longer true q = sym (le-ltb 63 (length (ace l)) (leb-true (length (ace l)) 63 q))
-    longer false q = sym (lt-ltb 63 (length (ace l)) (leb-false (length (ace l)) 63 q))
+  jp-chars : allOf (labelChar P) jp ≡ true
+  unfolding allOf labelChar asciiSet alnum within jp
+  jp-chars = simp or-true
 
-    go : (j : Bool) → isJapanese today l ≡ j → isJapanese today l && not (eqb (coderNumber l 63) 0) ≡ isJapanese today l && ltb 63 (length (ace l))
-    go true p = rw (p, coder-says l e p) (longer (leb (length (ace l)) 63) refl)
-    go false p = rw p
+  module _ (short : allOf (λ (l : List ℕ). leb (length l) 15) (P .middles) ≡ true) (text : List ℕ) (e : rules P text .number ≡ 0) where
+    pub no-14 : anyOf (uncoded P) (labels (normalForm text)) ≡ false
+    unfolding rules verdict
+    no-14 =
+        all-none (λ l. not (uncoded P l)) (uncoded P) (λ l p. not-true (uncoded P l) p) (labels (normalForm text))
+        (each-label P (λ l. not (uncoded P l)) (λ l a k. label-fine l a (left-size l k)) (λ l a m. label-fine l a (λ q. middle-length P short l m))
+        (label-fine jp jp-chars (λ q. unfold jp in omega arith)) text (cleared P text e) .0)
 
-all-over : (ls : List (List ℕ)) → allOf coderFit ls ≡ true → anyOf (uncoded today) ls ≡ anyOf over ls
-unfolding allOf anyOf
-all-over [] e = refl
-all-over (l ∷ ls) e =
-    let p = both (coderFit l) (allOf coderFit ls) e in
-    rw (uncoded-over l (p .0), all-over ls (p .1))
+    -- the call for the ASCII form answers 0 where the buffer has room
+    pub always : (room : ℕ) → 192 ≤ room → first (asciiRows P text room) ≡ accepted
+    unfolding asciiRows rules verdict
+    always room h =
+        let last = row 14 (anyOf (uncoded P) (labels (normalForm text))) 0 ∷ [] in
+        passed-over 1 (ltb room 192) 0 (textRows P text ++ last) (le-ltb room 192 h)
+        ∙ clear-before (textRows P text) last (cleared P text e)
+        ∙ clear last (no-14, tt)
 
-module _ (text : List ℕ) (e : rules today text .number ≡ 0) where
-  pub no-13 : allOf coderFit (labels (normalForm text)) ≡ true
-  unfolding rules verdict today
-  no-13 =
-      each-label today coderFit (λ l a k. label-fit l a (left-size l k)) (λ l a m. label-fit l a (λ q. let h = middle-size l m in omega arith)) jp-fit text
-      (cleared today text e) .0
+    -- and writes the form
+    pub ascii-given : (before after : List ℕ) (r : Checked) → AsciiForms P text before after r → 192 ≤ length before
+        → (r .number ≡ 0) × (after ≡ written (asciiForm P (normalForm text)) before)
+    unfolding checked verdict given
+    ascii-given before after r a h =
+        let p = always (length before) h in
+        (ap (λ (x : Checked). x .number) (a .result) ∙ rw p, a .buffer ∙ rw p)
 
-  -- so row 14 is: the encoding of a Japanese label has over 63 octets
-  pub row-14 : anyOf (uncoded today) (labels (normalForm text)) ≡ anyOf over (labels (normalForm text))
-  row-14 = all-over (labels (normalForm text)) no-13
+  -- so of no text does the call answer 14
+  module _ (short : allOf (λ (l : List ℕ). leb (length l) 15) (P .middles) ≡ true) (text : List ℕ) where
+    not-14 : (n : ℕ) → not (eqb n 14) ≡ true → n ≡ 14 → ⊥
+    not-14 n e p = eqb-false n 14 (not-true (eqb n 14) e) p
+
+    text-not-14 : not (eqb (first (textRows P text) .number) 14) ≡ true
+    unfolding textRows nameRows labelRows allOf
+    text-not-14 = numbered (λ (n : ℕ). not (eqb n 14)) refl (textRows P text) refl
+
+    row-never : (room : ℕ) → first (asciiRows P text room) .number ≡ 14 → ⊥
+    unfolding asciiRows rules verdict
+    row-never room e = go (ltb room 192) refl (eqb (first (textRows P text) .number) 0) refl
+      where
+        last : List Row
+        last = row 14 (anyOf (uncoded P) (labels (normalForm text))) 0 ∷ []
+
+        go : (n : Bool) → ltb room 192 ≡ n → (z : Bool) → eqb (first (textRows P text) .number) 0 ≡ z → ⊥
+        go true p z q = let k = ap (λ (a : Answer). a .number) (hit 1 (ltb room 192) 0 (textRows P text ++ last) p) in omega (arith, e)
+        go false p true q =
+            let k = ap (λ (a : Answer). a .number) (always short text (eqb-true _ 0 q) room (ltb-false room 192 p)) in
+            omega (arith, e)
+        go false p false q =
+            let k =
+            passed-over 1 (ltb room 192) 0 (textRows P text ++ last) p ∙ refused-before (textRows P text) last (eqb-false _ 0 q) in
+            not-14 _ text-not-14 (sym (ap (λ (a : Answer). a .number) k) ∙ e)
+
+    pub never-14 : (before after : List ℕ) (r : Checked) → AsciiForms P text before after r → r .number ≡ 14 → ⊥
+    unfolding checked verdict
+    never-14 before after r a e = row-never (length before) (sym (ap (λ (x : Checked). x .number) (a .result)) ∙ e)
+
+-- at the edition in force
+pub given-today : (text before after : List ℕ) (r : Checked) → rules today text .number ≡ 0 → AsciiForms today text before after r → 192 ≤ length before
+    → (r .number ≡ 0) × (after ≡ written (asciiForm today (normalForm text)) before)
+given-today text before after r e = ascii-given today (today-laws .stretch) (today-laws .middle-short) text e before after r
+
+pub never-14-today : (text before after : List ℕ) (r : Checked) → AsciiForms today text before after r → r .number ≡ 14 → ⊥
+never-14-today = never-14 today (today-laws .stretch) (today-laws .middle-short)

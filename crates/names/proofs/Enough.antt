@@ -16,12 +16,13 @@ use Rattle.lists.proofs.Laws.{both, or-right, clash, same-is}
 use Rattle.lists.proofs.Tables.{Clear}
 use Rattle.normal.specs.Normal.{normalForm}
 use Rattle.rules.specs.Labels.{labels}
-use Rattle.rules.specs.Permits.{Permits, labelChar}
+use Rattle.rules.specs.Permits.{Permits, labelChar, middle}
 use Rattle.rules.specs.Rules.{isJapanese, long, jp, labelRows, nameRows, textRows}
-use Rattle.rules.specs.Editions.{isPrefecture, today, todayWith}
+use Rattle.rules.specs.Editions.{todayWith}
 use Rattle.rules.proofs.Views.{and-false}
 use Rattle.rules.proofs.Cuts.{labels-fit}
-use Rattle.rules.proofs.Today.{today-laws}
+use Rattle.rules.proofs.Derived.{middle-length}
+use Rattle.rules.proofs.Today.{lent-short}
 use Rattle.names.specs.Calls.{asciiForm, uncoded, AsciiForms}
 use Rattle.names.specs.Steps.{octet, writable, Writable, Tries, refusedCall, Judges}
 use Rattle.names.specs.declared.Checked.{Checked}
@@ -32,7 +33,7 @@ use Rattle.names.proofs.OfLabel.{ascii-octets}
 -- ---- a law of each label of an accepted name
 
 module _ (P : Permits) (f : List ℕ → Bool) (left : (l : List ℕ) → allOf (labelChar P) l ≡ true → long P l ≡ false → f l ≡ true)
-    (middle : (l : List ℕ) → allOf (labelChar P) l ≡ true → P .middle l ≡ true → f l ≡ true) (last : f jp ≡ true) where
+    (mid : (l : List ℕ) → allOf (labelChar P) l ≡ true → middle P l ≡ true → f l ≡ true) (last : f jp ≡ true) where
   jp-last : (l : List ℕ) → not (same l jp) ≡ false → f l ≡ true
   jp-last l e = ap f (same-is l jp (not-false (same l jp) e)) ∙ last
 
@@ -46,7 +47,7 @@ module _ (P : Permits) (f : List ℕ → Bool) (left : (l : List ℕ) → allOf 
   by-number (l ∷ m ∷ n ∷ []) c a =
       let p = both (allOf (labelChar P) l) _ a in
       let q = both (allOf (labelChar P) m) _ (p .1) in (
-        rw (left l (p .0) (c .1 .1 .1 .1 .0), middle m (q .0) (not-false (P .middle m) (c .1 .1 .1 .1 .1 .1 .1 .0)), jp-last n (c .1 .1 .1 .1 .1 .1 .0)),
+        rw (left l (p .0) (c .1 .1 .1 .1 .0), mid m (q .0) (not-false (middle P m) (c .1 .1 .1 .1 .1 .1 .1 .0)), jp-last n (c .1 .1 .1 .1 .1 .1 .0)),
         omega arith,
       )
   by-number (l ∷ m ∷ n ∷ o ∷ ls) c a =
@@ -71,21 +72,15 @@ left-size : (P : Permits) (l : List ℕ) → long P l ≡ false → isJapanese P
 unfolding long
 left-size P l e p = ltb-false 63 (length l) (rw p at e)
 
--- a prefecture label has at most 60 characters in every edition that has these labels
-pub middle-size : (l : List ℕ) → isPrefecture l ≡ true → length l ≤ 60
-unfolding today
-middle-size l e = today-laws .middle-short l e
-
 jp-writable : (P : Permits) → writable P jp ≡ true
 unfolding writable jp allOf octet
 jp-writable P = or-right (isJapanese P (0x6A ∷ 0x70 ∷ [])) true refl
 
 pub accepted-writable : (table text : List ℕ) → Clear (textRows (todayWith table) text) → Writable (todayWith table) (normalForm text) 192
-unfolding todayWith
 accepted-writable table text c =
     let P = todayWith table in
     let w = each-label P (writable P) (λ l a k. label-writable P l a (left-size P l k))
-    (λ l a m. label-writable P l a (λ q. let h = middle-size l m in omega arith)) (jp-writable P) text c in
+    (λ l a m. label-writable P l a (λ q. let h = middle-length P (lent-short table) l m in omega arith)) (jp-writable P) text c in
     record { fit = w .0; few = omega (arith, w .1) }
 
 pub ready : (table text : List ℕ) {lent after : List ℕ} {j : Checked} → Judges (todayWith table) text lent after j → j .number ≡ 0

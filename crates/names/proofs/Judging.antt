@@ -53,13 +53,13 @@ fronted xs before = let e : length xs - 0 ≡ length xs = omega arith in rw e (f
 
 -- ---- the normal form call, given room, goes one of three ways
 
-data Way (text before after : List ℕ) (r : Normal) : Type 0 where
+pub data Way (text before after : List ℕ) (r : Normal) : Type 0 where
   no-text : length text ≡ 0 → r ≡ record { number = 2; place = 0; length = 0 } → after ≡ before → Way text before after r
   over : (length text ≡ 0 → ⊥) → 256 < length text → r ≡ record { number = 3; place = 256; length = 0 } → after ≡ before → Way text before after r
   whole : (length text ≡ 0 → ⊥) → length text ≤ 256 → r ≡ record { number = 0; place = 0; length = length (normalForm text) }
       → after ≡ written (normalForm text) before → Way text before after r
 
-way : {text before after : List ℕ} {r : Normal} → 256 ≤ length before → Normalises text before after r → Way text before after r
+pub way : {text before after : List ℕ} {r : Normal} → 256 ≤ length before → Normalises text before after r → Way text before after r
 way {text} {before} {after} {r} h n = by-length (length text) refl
   where
     by-size : (length text ≡ 0 → ⊥) → (256 < length text) ⊎ (length text ≤ 256) → Way text before after r
@@ -101,7 +101,7 @@ module _ (P : Permits) (text before : List ℕ) {after : List ℕ} where
 
 -- where neither 2 nor 3 applies, the buffer holds the normal form
 module _ {text before after : List ℕ} {r : Normal} (room : 256 ≤ length before) (n : Normalises text before after r) (z : r .number ≡ 0) where
-  formed : (length text ≡ 0 → ⊥) × (length text ≤ 256) × (r .length ≡ length (normalForm text)) × (after ≡ written (normalForm text) before)
+  pub formed : (length text ≡ 0 → ⊥) × (length text ≤ 256) × (r .length ≡ length (normalForm text)) × (after ≡ written (normalForm text) before)
   formed = go (way room n)
     where
       go : Way text before after r
@@ -113,7 +113,7 @@ module _ {text before after : List ℕ} {r : Normal} (room : 256 ≤ length befo
   pub in-buffer : r .length ≤ 256
   in-buffer = let f = formed in omega (arith, f .1, f .2, no-longer text)
 
-  form-is : take (r .length - 0) (drop 0 after) ≡ normalForm text
+  pub form-is : take (r .length - 0) (drop 0 after) ≡ normalForm text
   form-is = let f = formed in rw (f .2, f .3) (fronted (normalForm text) before)
 
 module _ (P : Permits) {text before after : List ℕ} {r : Normal} (room : 256 ≤ length before) (n : Normalises text before after r) where
@@ -131,7 +131,7 @@ module _ (P : Permits) {text before after : List ℕ} {r : Normal} (room : 256 �
     judges-whole e = let f = formed room n z in rw (f .2) (judges-as P text before e (shown-whole text (f .1)) (f .3))
 
     module _ {k : ℕ} (e : k ≡ firstOf (unfit P) (take (r .length - 0) (drop 0 after))) where
-      first-is : k ≡ firstOf (unfit P) (normalForm text)
+      pub first-is : k ≡ firstOf (unfit P) (normalForm text)
       first-is = e ∙ ap (firstOf (unfit P)) (form-is room n z)
 
       pub judges-unfit : {p : ℕ} → k < r .length → p ≡ getD (places text) k 0
@@ -142,7 +142,7 @@ module _ (P : Permits) {text before after : List ℕ} {r : Normal} (room : 256 �
           let at : p ≡ getD (places text) (firstOf (unfit P) (normalForm text)) 0 = q ∙ ap (λ (j : ℕ). getD (places text) j 0) first-is in
           rw at (judges-whole (text-4 P text (f .0) (f .1) some))
 
-      none-unfit : r .length ≤ k → anyOf (unfit P) (normalForm text) ≡ false
+      pub none-unfit : r .length ≤ k → anyOf (unfit P) (normalForm text) ≡ false
       none-unfit h = let f = formed room n z in not-found (unfit P) (normalForm text) (omega (arith, first-is, f .2))
 
       pub form-fit : r .length ≤ k → anyOf (unfit P) (take (r .length - 0) (drop 0 after)) ≡ false

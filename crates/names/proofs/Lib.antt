@@ -10,3 +10,4 @@ pub mod Usual
 pub mod Lending
 pub mod Unique
 pub mod Coded
+pub mod Hoping

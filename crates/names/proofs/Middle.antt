@@ -1,5 +1,5 @@
 -- The middle label: the table of characters, cut where each label starts, is the list of the 94, by computation; a search over
--- the parts is a scan.
+-- the parts for one of which a test holds is a scan.
 -- Assumes nothing.
 use mathlib.Core.Path.{_≡_, refl, sym, ap, _∙_}
 use mathlib.Core.Bool.{Bool, true, false, _&&_, _||_}
@@ -10,18 +10,18 @@ use lib.Dec.{leb}
 use lib.ListN.{length, take, drop, getD, length-drop}
 use lib.Seq.{drop-cons}
 use borrow.Author.Tests.{leb-true}
-use Rattle.lists.specs.Tests.{anyOf, same}
+use Rattle.lists.specs.Tests.{anyOf}
 use Rattle.lists.proofs.Laws.{both}
 use Rattle.names.specs.Steps.{parts, inOrder}
 
 -- the search from the i-th part on decides, and the starts from there on are in order
-pub record Left (table starts label : List ℕ) (i : ℕ) : Type 0 where
+pub record Left (f : List ℕ → Bool) (table starts : List ℕ) (i : ℕ) : Type 0 where
   pub some : 1 ≤ i
-  pub told : anyOf (same label) (parts table starts) ≡ anyOf (same label) (parts table (drop (i - 1) starts))
+  pub told : anyOf f (parts table starts) ≡ anyOf f (parts table (drop (i - 1) starts))
   pub order : inOrder (length table) (drop (i - 1) starts) ≡ true
 
-pub at-first : (table starts label : List ℕ) → inOrder (length table) starts ≡ true → Left table starts label 1
-at-first table starts label e = record { some = omega arith; told = refl; order = e }
+pub at-first : (f : List ℕ → Bool) (table starts : List ℕ) → inOrder (length table) starts ≡ true → Left f table starts 1
+at-first f table starts e = record { some = omega arith; told = refl; order = e }
 
 first-in : (n : ℕ) (a : ℕ) (ss : List ℕ) → inOrder n (a ∷ ss) ≡ true → a ≤ n
 unfolding inOrder
@@ -31,7 +31,7 @@ first-in n a (b ∷ ss) e =
     let k = first-in n b ss (p .1) in
     omega (arith, leb-true a b (p .0))
 
-module _ (table starts label : List ℕ) (i : ℕ) (l : Left table starts label i) (h : i < length starts) where
+module _ (f : List ℕ → Bool) (table starts : List ℕ) (i : ℕ) (l : Left f table starts i) (h : i < length starts) where
   ahead : drop (i - 1) starts ≡ getD starts (i - 1) 0 ∷ drop i starts
   ahead =
       let s : suc (i - 1) ≡ i = omega (arith, l .some) in
@@ -47,16 +47,16 @@ module _ (table starts label : List ℕ) (i : ℕ) (l : Left table starts label 
   pub bounds : (getD starts (i - 1) 0 ≤ getD starts i 0) × (getD starts i 0 ≤ length table)
   bounds = let p = both (leb (getD starts (i - 1) 0) (getD starts i 0)) _ ordered in (leb-true _ _ (p .0), first-in _ _ _ (p .1))
 
-  peel : anyOf (same label) (parts table starts)
-      ≡ same label (take (getD starts i 0 - getD starts (i - 1) 0) (drop (getD starts (i - 1) 0) table)) || anyOf (same label) (parts table (drop i starts))
+  peel : anyOf f (parts table starts)
+      ≡ f (take (getD starts i 0 - getD starts (i - 1) 0) (drop (getD starts (i - 1) 0) table)) || anyOf f (parts table (drop i starts))
   unfolding parts anyOf
-  peel = l .told ∙ ap (λ (ss : List ℕ). anyOf (same label) (parts table ss)) two-ahead ∙ rw (drop-cons starts i 0 h)
+  peel = l .told ∙ ap (λ (ss : List ℕ). anyOf f (parts table ss)) two-ahead ∙ rw (drop-cons starts i 0 h)
 
-  module _ {b : Bool} (e : b ≡ same label (take (getD starts i 0 - getD starts (i - 1) 0) (drop (getD starts (i - 1) 0) table))) where
-    pub part-here : b ≡ true → true ≡ anyOf (same label) (parts table starts)
+  module _ {b : Bool} (e : b ≡ f (take (getD starts i 0 - getD starts (i - 1) 0) (drop (getD starts (i - 1) 0) table))) where
+    pub part-here : b ≡ true → true ≡ anyOf f (parts table starts)
     part-here p = sym (peel ∙ simp (sym e ∙ p))
 
-    pub part-on : b ≡ false → Left table starts label (i + 1)
+    pub part-on : b ≡ false → Left f table starts (i + 1)
     part-on p =
         let s : i + 1 - 1 ≡ i = omega arith in
         record {
@@ -65,11 +65,11 @@ module _ (table starts label : List ℕ) (i : ℕ) (l : Left table starts label 
           order = rw (s, drop-cons starts i 0 h) (both (leb (getD starts (i - 1) 0) (getD starts i 0)) _ ordered .1);
         }
 
-pub part-end : (table starts label : List ℕ) (i : ℕ) → Left table starts label i → length starts ≤ i → false ≡ anyOf (same label) (parts table starts)
+pub part-end : (f : List ℕ → Bool) (table starts : List ℕ) (i : ℕ) → Left f table starts i → length starts ≤ i → false ≡ anyOf f (parts table starts)
 unfolding anyOf parts
-part-end table starts label i l h = sym (l .told ∙ go (drop (i - 1) starts) (omega (arith, length-drop (i - 1) starts)))
+part-end f table starts i l h = sym (l .told ∙ go (drop (i - 1) starts) (omega (arith, length-drop (i - 1) starts)))
   where
-    go : (ss : List ℕ) → length ss ≤ 1 → anyOf (same label) (parts table ss) ≡ false
+    go : (ss : List ℕ) → length ss ≤ 1 → anyOf f (parts table ss) ≡ false
     go [] h = refl
     go (a ∷ []) h = refl
     go (a ∷ b ∷ ss) h = absurd (omega arith)

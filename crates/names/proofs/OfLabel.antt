@@ -10,7 +10,7 @@ use lib.ListN.{length, getD}
 use borrow.Author.Tests.{eq-eqb, ne-eqb, eqb-true, eqb-false, lt-ltb, le-ltb, ltb-true}
 use Rattle.lists.specs.Tests.{pick, allOf, anyOf, elem}
 use Rattle.lists.specs.Rows.{Row, row, Answer, first}
-use Rattle.lists.proofs.Laws.{or-left, or-right, in-range, all-none}
+use Rattle.lists.proofs.Laws.{or-left, or-right, in-range, all-none, any-weaker}
 use Rattle.lists.proofs.Tables.{clear, clear-before, hit, passed-over, refusing, accepted-clear}
 use Rattle.characters.specs.Characters.{asciiSet, hyphen, japaneseWith}
 use Rattle.characters.proofs.Bounds.{with-bounds, with-below}
@@ -75,7 +75,7 @@ module _ (P : Permits) (c : ℕ) where
       go true = refl
       go false = refl
 
--- ---- past FF: of characters that may stand in a label, the Japanese ones, all from 3005 on
+-- ---- past FF: of characters that may stand in a label, the Japanese ones, all from 3003 on
 
 pub ascii-octets : (P : Permits) (l : List ℕ) → allOf (labelChar P) l ≡ true → isJapanese P l ≡ false → allOf octet l ≡ true
 unfolding isJapanese labelChar octet
@@ -91,17 +91,7 @@ octet-narrow c e = let h = ltb-true c 0x100 e in le-ltb 0xFF c (omega arith)
 module _ (table : List ℕ) where
   japanese-wide : (c : ℕ) → todayWith table .japanese c ≡ true → wide c ≡ true
   unfolding todayWith wide
-  japanese-wide c e = let r = in-range 0x3005 0x9FA0 c (with-bounds table c e) in lt-ltb 0xFF c (omega arith)
-
-  some-wide : (l : List ℕ) → anyOf (todayWith table .japanese) l ≡ true → anyOf wide l ≡ true
-  unfolding anyOf
-  some-wide [] e = e
-  some-wide (x ∷ xs) e = go (todayWith table .japanese x) refl e (some-wide xs)
-    where
-      go : (b : Bool) → todayWith table .japanese x ≡ b → b || anyOf (todayWith table .japanese) xs ≡ true
-          → (anyOf (todayWith table .japanese) xs ≡ true → anyOf wide xs ≡ true) → wide x || anyOf wide xs ≡ true
-      go true p e on = or-left (wide x) (anyOf wide xs) (japanese-wide x p)
-      go false p e on = or-right (wide x) (anyOf wide xs) (on e)
+  japanese-wide c e = let r = in-range 0x3003 0x9FA0 c (with-bounds table c e) in lt-ltb 0xFF c (omega arith)
 
   module _ (l : List ℕ) {b : Bool} (e : b ≡ anyOf wide l) where
     pub wide-is : (isJapanese (todayWith table) l ≡ false → allOf octet l ≡ true) → b ≡ isJapanese (todayWith table) l
@@ -109,7 +99,7 @@ module _ (table : List ℕ) where
     wide-is k = e ∙ go (anyOf (todayWith table .japanese) l) refl
       where
         go : (j : Bool) → anyOf (todayWith table .japanese) l ≡ j → anyOf wide l ≡ j
-        go true p = some-wide l p
+        go true p = any-weaker (todayWith table .japanese) wide japanese-wide l p
         go false p = all-none octet wide octet-narrow l (k p)
 
     pub wide-fit : allOf (labelChar (todayWith table)) l ≡ true → b ≡ isJapanese (todayWith table) l

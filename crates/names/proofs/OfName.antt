@@ -9,12 +9,13 @@ use lib.Dec.{eqb}
 use lib.ListN.{length, take, drop, length-drop}
 use lib.Seq.{take-all}
 use borrow.Author.Tests.{eq-eqb, ne-eqb}
-use Rattle.lists.specs.Tests.{allOf, anyOf, firstOf}
+use Rattle.lists.specs.Tests.{allOf, anyOf, firstOf, same}
 use Rattle.lists.proofs.Laws.{both}
 use Rattle.rules.specs.Labels.{period, labels}
-use Rattle.rules.specs.Permits.{Permits, labelChar, isEmpty}
+use Rattle.rules.specs.Permits.{Permits, labelChar, middle, isEmpty}
+use Rattle.rules.specs.Prefectures.{prefectures}
 use Rattle.rules.specs.Rules.{unfit}
-use Rattle.rules.specs.Editions.{isPrefecture, todayWith}
+use Rattle.rules.specs.Editions.{todayWith}
 use Rattle.rules.specs.declared.Verdict.{Verdict}
 use Rattle.rules.proofs.Views.{and-false}
 use Rattle.rules.proofs.Cuts.{Labelled, none, cut, held, labelled, labels-fit, last-from, first-from}
@@ -67,13 +68,13 @@ module _ (table l m n : List ℕ) where
         sym (name-6 (todayWith table) (l ∷ m ∷ n ∷ []) (may-three table) (rw (filled l f, filled m g, empty n e))
         ∙ rw (filled l f, filled m g, empty n e))
 
-pub middle-is : (table m : List ℕ) {b : Bool} → b ≡ isPrefecture m → not (todayWith table .middle m) ≡ not b
-unfolding todayWith
-middle-is table m e = ap not (sym e)
+pub middle-is : (table m : List ℕ) {b : Bool} → b ≡ anyOf (same m) prefectures → b ≡ middle (todayWith table) m
+unfolding middle todayWith
+middle-is table m e = e
 
 -- ---- where the labels end
 
-some-label : {t : List ℕ} {ls : List (List ℕ)} → Labelled t ls → 1 ≤ length ls
+pub some-label : {t : List ℕ} {ls : List (List ℕ)} → Labelled t ls → 1 ≤ length ls
 some-label none = omega arith
 some-label (cut d) = omega arith
 some-label (held p d) = omega arith
@@ -82,43 +83,61 @@ too-many : (P : Permits) (ls : List (List ℕ)) → (length ls ≡ 2 → ⊥) �
 too-many P ls f g = sym (name-5 P ls (rw (ne-eqb (length ls) 2 f, ne-eqb (length ls) 3 g) (and-false (P .three))))
 
 -- the search from 0 came to a, that from a + 1 to b, that from b + 1 to d
+module _ (t : List ℕ) (a : ℕ) (sa : a ≡ 0 + firstOf period (drop 0 t)) where
+  pub one-is : length t ≤ a → labels t ≡ t ∷ []
+  one-is k = last-from t 0 a (omega arith) sa k
+
+  module _ (ka : a < length t) where
+    pub first-is : labels t ≡ take (a - 0) (drop 0 t) ∷ labels (drop (a + 1) t)
+    first-is = first-from t 0 a (omega arith) sa ka
+
+    module _ (b : ℕ) (sb : b ≡ a + 1 + firstOf period (drop (a + 1) t)) where
+      pub two-is : length t ≤ b → labels t ≡ take (a - 0) (drop 0 t) ∷ take (length t - (a + 1)) (drop (a + 1) t) ∷ []
+      two-is k =
+          let w : take (length t - (a + 1)) (drop (a + 1) t) ≡ drop (a + 1) t =
+          take-all (length t - (a + 1)) (drop (a + 1) t) (omega (arith, length-drop (a + 1) t)) in
+          rw (w, first-is, last-from t (a + 1) b (omega arith) sb k)
+
+      module _ (kb : b < length t) (d : ℕ) (sd : d ≡ b + 1 + firstOf period (drop (b + 1) t)) where
+        two : labels t ≡ take (a - 0) (drop 0 t) ∷ take (b - (a + 1)) (drop (a + 1) t) ∷ labels (drop (b + 1) t)
+        two = first-is ∙ ap (λ (ls : List (List ℕ)). take (a - 0) (drop 0 t) ∷ ls) (first-from t (a + 1) b (omega arith) sb kb)
+
+        pub three-is : length t ≤ d
+            → labels t ≡ take (a - 0) (drop 0 t) ∷ take (b - (a + 1)) (drop (a + 1) t) ∷ take (length t - (b + 1)) (drop (b + 1) t) ∷ []
+        three-is k =
+            let w : take (length t - (b + 1)) (drop (b + 1) t) ≡ drop (b + 1) t =
+            take-all (length t - (b + 1)) (drop (b + 1) t) (omega (arith, length-drop (b + 1) t)) in
+            rw (w, two, last-from t (b + 1) d (omega arith) sd k)
+
+        -- and a fourth at least
+        pub more-is : d < length t
+            → labels t ≡ take (a - 0) (drop 0 t) ∷ take (b - (a + 1)) (drop (a + 1) t) ∷ take (d - (b + 1)) (drop (b + 1) t) ∷ labels (drop (d + 1) t)
+        more-is k =
+            two ∙ ap (λ (ls : List (List ℕ)). take (a - 0) (drop 0 t) ∷ take (b - (a + 1)) (drop (a + 1) t) ∷ ls) (first-from t (b + 1) d (omega arith) sd k)
+
 module _ (P : Permits) (t : List ℕ) (a : ℕ) (sa : a ≡ 0 + firstOf period (drop 0 t)) where
   pub one-label : length t ≤ a → refusal 5 0 ≡ byLabels P (labels t)
-  one-label k =
-      let e : labels t ≡ t ∷ [] = last-from t 0 a (omega arith) sa k in
-      rw e (too-many P (t ∷ []) (λ x. omega arith) (λ x. omega arith))
+  one-label k = rw (one-is t a sa k) (too-many P (t ∷ []) (λ x. omega arith) (λ x. omega arith))
 
   pub left-fit : a < length t → anyOf (unfit P) t ≡ false → allOf (labelChar P) (take (a - 0) (drop 0 t)) ≡ true
   unfolding allOf
   left-fit ka u =
       both (allOf (labelChar P) (take (a - 0) (drop 0 t))) _
-      (ap (allOf (allOf (labelChar P))) (sym (first-from t 0 a (omega arith) sa ka)) ∙ labels-fit P t u) .0
+      (ap (allOf (allOf (labelChar P))) (sym (first-is t a sa ka)) ∙ labels-fit P t u) .0
 
   module _ (ka : a < length t) (b : ℕ) (sb : b ≡ a + 1 + firstOf period (drop (a + 1) t)) where
-    one : labels t ≡ take (a - 0) (drop 0 t) ∷ labels (drop (a + 1) t)
-    one = first-from t 0 a (omega arith) sa ka
-
     pub two-labels : {v : Verdict} → length t ≤ b
         → v ≡ byLabels P (take (a - 0) (drop 0 t) ∷ take (length t - (a + 1)) (drop (a + 1) t) ∷ []) → v ≡ byLabels P (labels t)
-    two-labels k e =
-        let w : take (length t - (a + 1)) (drop (a + 1) t) ≡ drop (a + 1) t =
-        take-all (length t - (a + 1)) (drop (a + 1) t) (omega (arith, length-drop (a + 1) t)) in
-        e ∙ rw (w, one, last-from t (a + 1) b (omega arith) sb k)
+    two-labels k e = e ∙ rw (two-is t a sa ka b sb k)
 
     module _ (kb : b < length t) (d : ℕ) (sd : d ≡ b + 1 + firstOf period (drop (b + 1) t)) where
-      two : labels t ≡ take (a - 0) (drop 0 t) ∷ take (b - (a + 1)) (drop (a + 1) t) ∷ labels (drop (b + 1) t)
-      two = one ∙ ap (λ (ls : List (List ℕ)). take (a - 0) (drop 0 t) ∷ ls) (first-from t (a + 1) b (omega arith) sb kb)
-
       pub three-labels : {v : Verdict} → length t ≤ d
           → v ≡ byLabels P (take (a - 0) (drop 0 t) ∷ take (b - (a + 1)) (drop (a + 1) t) ∷ take (length t - (b + 1)) (drop (b + 1) t) ∷ [])
           → v ≡ byLabels P (labels t)
-      three-labels k e =
-          let w : take (length t - (b + 1)) (drop (b + 1) t) ≡ drop (b + 1) t =
-          take-all (length t - (b + 1)) (drop (b + 1) t) (omega (arith, length-drop (b + 1) t)) in
-          e ∙ rw (w, two, last-from t (b + 1) d (omega arith) sd k)
+      three-labels k e = e ∙ rw (three-is t a sa ka b sb kb d sd k)
 
       pub more-labels : d < length t → refusal 5 0 ≡ byLabels P (labels t)
       more-labels k =
           let n = some-label (labelled (drop (d + 1) t)) in
-          let e = two ∙ ap (λ (ls : List (List ℕ)). take (a - 0) (drop 0 t) ∷ take (b - (a + 1)) (drop (a + 1) t) ∷ ls) (first-from t (b + 1) d (omega arith) sd k) in
+          let e = more-is t a sa ka b sb kb d sd k in
           too-many P (labels t) (λ x. omega (arith, ap length e)) (λ x. omega (arith, ap length e))

@@ -60,7 +60,7 @@ asciiLabel P l = pick (isJapanese P l) (ace l) l
 unfoldable pub asciiForm : Permits → List ℕ → List ℕ
 asciiForm P form = join (map (asciiLabel P) (labels form))
 
--- the coder refuses a Japanese label: of an accepted name of an edition that is 14, over 63 octets (proofs/Coded)
+-- the coder refuses a Japanese label; of an accepted name it never does, neither with 13 nor with 14 (proofs/Coded)
 unfoldable pub uncoded : Permits → List ℕ → Bool
 uncoded P l = isJapanese P l && not (eqb (coderNumber l 63) 0)
 

@@ -12,6 +12,7 @@ use Rattle.characters.specs.Characters.{asciiSet, kanaOrKanjiWith}
 use Rattle.rules.specs.Labels.{labels}
 use Rattle.rules.specs.Permits.{Permits}
 use Rattle.rules.specs.Rules.{isJapanese, hyphenEdge, labelRows, jp, nameRows, verdict, rules}
+use Rattle.rules.specs.Hopeful.{begins}
 use Rattle.rules.specs.declared.Class.the-variants.{None}
 use Rattle.rules.specs.declared.Verdict.{Verdict}
 use Rattle.names.specs.Calls.{shown}
@@ -48,6 +49,10 @@ refusedCall n p = record { number = n; place = p; class = None; length = 0 }
 pub record Judges (P : Permits) (text before after : List ℕ) (r : Checked) : Type 0 where
   pub result : r ≡ record { number = rules P text .number; place = rules P text .place; class = rules P text .class; length = length (shown text) }
   pub buffer : after ≡ written (shown text) before
+
+-- a label is the part or, where it need not be whole, its beginning
+unfoldable pub isPart : Bool → List ℕ → List ℕ → Bool
+isPart whole label = pick whole (same label) (begins label)
 
 -- a table cut where each part starts, the last start being the end of the last part
 unfoldable pub parts : List ℕ → List ℕ → List (List ℕ)

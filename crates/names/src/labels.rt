@@ -14,6 +14,7 @@ ghost use Rattle.rules.specs.Labels.{period};
 ghost use Rattle.rules.specs.Permits.{labelChar};
 ghost use Rattle.rules.specs.Rules.{unfit, ordinary, hyphenEdge, bareDot, jp};
 ghost use Rattle.rules.specs.Editions.{todayWith};
+ghost use Rattle.rules.specs.Hopeful.{begins};
 ghost use Rattle.names.specs.Steps.{labelNumber, edgeNumber, wide, plain, endsInJp};
 
 pub const PERIOD: u32 = 0x2E;
@@ -195,6 +196,24 @@ pub fn is_jp(label: &[u32]) -> bool
     ensures { λ r. ⌜ r ≡ same (now (label .entry)) jp ⌝ }
 {
     lists::same(label, &JP)
+}
+
+// Does the label begin the whole?
+pub(crate) fn begins(label: &[u32], whole: &[u32]) -> bool
+    ensures { λ r. ⌜ r ≡ begins (now (label .entry)) (now (whole .entry)) ⌝ }
+{
+    let n = label.len();
+    if whole.len() < n {
+        return false;
+    }
+    lists::same(label, &whole[0..n])
+}
+
+// Does the label begin "jp"?
+pub(crate) fn begins_jp(label: &[u32]) -> bool
+    ensures { λ r. ⌜ r ≡ begins (now (label .entry)) jp ⌝ }
+{
+    begins(label, &JP)
 }
 
 // Is the text one of 4 to 256 code points that ends in ".jp"?

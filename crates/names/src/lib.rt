@@ -1,8 +1,9 @@
-// The calls on a name: judge, check, second reader, whole ASCII form. Each takes any text and any lent buffer, says by itself
-// whether the text is fit, and writes nothing where it refuses. Its meaning is defined in `rules` (specs/Rules, Reader) and here
-// in specs/Calls. A call `.._with` is lent the table of kanji, so that a program names that table once; the call without names it itself.
+// The calls on a name: judge, check, whether it may yet become one, second reader, whole ASCII form. Each takes any text and any lent
+// buffer, says by itself whether the text is fit, and writes nothing where it refuses. Its meaning is defined in `rules` (specs/Rules,
+// Hopeful, Reader) and here in specs/Calls. A call `.._with` is lent the table of kanji, so that a program names that table once; the call without names it itself.
 mod ascii;
 mod checks;
+mod hopes;
 mod judges;
 mod labels;
 mod middles;
@@ -14,6 +15,8 @@ pub use ascii::to_ascii;
 pub use ascii::to_ascii_with;
 pub use checks::check;
 pub use checks::check_with;
+pub use hopes::may_become;
+pub use hopes::may_become_with;
 pub use judges::judge;
 pub use judges::judge_with;
 pub use readers::reads;

@@ -2,5 +2,6 @@ pub mod Pending
 pub mod Plain
 pub mod Laws
 pub mod Unchanged
+pub mod Continued
 pub mod Answers
 pub mod Unique

@@ -70,10 +70,7 @@ fn decode(octets: &[u8], room: usize, out: &mut [u8], from: usize) -> usize
 
 // S: the second reader.
 fn reads(kanji: &[u32], label: &[u32], out: &mut [u8], o: usize) -> usize {
-    if names::reads_with(kanji, label) {
-        return printed::put_byte(out, o, b'1');
-    }
-    printed::put_byte(out, o, b'0')
+    printed::put_flag(out, o, names::reads_with(kanji, label))
 }
 
 // Puts the numbers into `octets`, and says whether all of them are octets.
@@ -128,6 +125,7 @@ fn call(kanji: &[u32], call: u8, numbers: &[u32], room: usize, out: &mut [u8], o
         b'E' => encode(numbers, room, out, o),
         b'S' => reads(kanji, numbers, out, o),
         b'L' => streams::live_check(kanji, numbers, out, o),
+        b'M' => streams::hope(kanji, numbers, out, o),
         b'B' | b'D' => on_octets(kanji, call, numbers, room, out, o),
         _ => printed::put_byte(out, o, b'?'),
     }

@@ -26,6 +26,14 @@ pub(crate) fn put_byte(out: &mut [u8], o: usize, b: u8) -> usize
     0
 }
 
+// 1 or 0.
+pub(crate) fn put_flag(out: &mut [u8], o: usize, yes: bool) -> usize {
+    if yes {
+        return put_byte(out, o, b'1');
+    }
+    put_byte(out, o, b'0')
+}
+
 // The bytes of s.
 fn put_bytes(out: &mut [u8], from: usize, s: &[u8]) -> usize {
     let mut o = from;

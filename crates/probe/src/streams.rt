@@ -55,6 +55,29 @@ pub(crate) fn live_check(kanji: &[u32], text: &[u32], out: &mut [u8], from: usiz
     put_shown(out, o, &form)
 }
 
+// A flag for what is typed so far, after each code point, from none on: may it yet become a name?
+fn put_hopes(kanji: &[u32], text: &[u32], out: &mut [u8], from: usize) -> usize {
+    let mut state = live::Live::fresh();
+    let mut o = printed::put_flag(out, from, state.may_become_with(kanji));
+    let mut i: usize = 0;
+    while i < text.len() {
+        state = state.step(text[i]);
+        o = printed::put_flag(out, o, state.may_become_with(kanji));
+        i += 1;
+    }
+    o
+}
+
+// M: may it yet become a name? The live check after each code point; then the other calls that say so, on the whole text.
+pub(crate) fn hope(kanji: &[u32], text: &[u32], out: &mut [u8], from: usize) -> usize {
+    let o = put_hopes(kanji, text, out, from);
+    let p = printed::put_byte(out, o, b' ');
+    let q = printed::put_flag(out, p, names::may_become_with(kanji, text));
+    let r = printed::put_flag(out, q, names::may_become(text));
+    let state = typed(text);
+    printed::put_flag(out, r, state.may_become())
+}
+
 // An octet, with a space before it unless it is the first.
 fn put_next(out: &mut [u8], from: usize, b: u8, first: bool) -> usize {
     if first {

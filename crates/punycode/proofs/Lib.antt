@@ -10,3 +10,4 @@ pub mod Runs
 pub mod Clipped
 pub mod Machine
 pub mod Answers
+pub mod Bound

@@ -86,7 +86,12 @@ module _ (P : Permits) where
   pub labels-fit : (t : List ℕ) → anyOf (unfit P) t ≡ false → allOf (allOf (labelChar P)) (labels t) ≡ true
   labels-fit t e = labels-held (labelled t) e
 
--- ---- the labels of a label, a period and a rest
+-- ---- the labels of a label alone, and of a label, a period and a rest
+
+pub labels-one : (l : List ℕ) → anyOf period l ≡ false → labels l ≡ l ∷ []
+unfolding labels anyOf onto
+labels-one [] e = refl
+labels-one (x ∷ xs) e = let n = neither (period x) (anyOf period xs) e in rw (n .0, labels-one xs (n .1))
 
 pub labels-cut : (l r : List ℕ) → anyOf period l ≡ false → labels (l ++ 0x2E ∷ r) ≡ l ∷ labels r
 unfolding labels anyOf onto period

@@ -7,21 +7,21 @@ use mathlib.Core.List.{List, [], _∷_, _++_}
 use mathlib.Core.Logic.{_⊎_, inl, inr, ⊎-elim}
 use Prim.Native.Nat.{ℕ, _-_, _≤_}
 use native.Mathlib.Omega.{arith}
-use lib.Dec.{eqb, ltb}
+use lib.Dec.{eqb, leb, ltb}
 use lib.ListN.{length, getD, length-append}
-use borrow.Author.Tests.{eqb-true, ltb-false, not-false}
+use borrow.Author.Tests.{eqb-true, ltb-false, leb-true, not-true, not-false}
 use Rattle.lists.specs.Tests.{pick, within, allOf, anyOf}
 use Rattle.lists.specs.Rows.{Row}
-use Rattle.lists.proofs.Laws.{both, neither, or-right, any-append, all-none, same-is, same-refl}
+use Rattle.lists.proofs.Laws.{both, neither, or-right, any-append, all-none, in-lists, same-is, same-refl}
 use Rattle.lists.proofs.Tables.{Clear}
 use Rattle.characters.specs.Characters.{alnum, hyphen, asciiSet}
 use Rattle.rules.specs.Labels.{period, onto, labels, join}
-use Rattle.rules.specs.Permits.{Permits, Laws, labelChar, isEmpty}
+use Rattle.rules.specs.Permits.{Permits, Laws, labelChar, middle, isEmpty}
 use Rattle.rules.specs.Rules.{unfit, isJapanese, long, labelRows, jp, nameRows, classOf}
 use Rattle.rules.specs.Grammar.{label, Derives, general, prefecture, listed}
 use Rattle.rules.specs.declared.Class.{Class}
 use Rattle.rules.proofs.Cuts.{labels-cut}
-use Rattle.rules.proofs.Sound.{Sound, label-sound, sound-label}
+use Rattle.rules.proofs.Sound.{Sound, low, label-sound, sound-label}
 
 -- ---- one table after another
 
@@ -32,6 +32,25 @@ split-clear (r ∷ rs) ss c = let k = split-clear rs ss (c .1) in ((c .0, k .0),
 join-clear : (rs ss : List Row) → Clear rs → Clear ss → Clear (rs ++ ss)
 join-clear [] ss c d = d
 join-clear (r ∷ rs) ss c d = (c .0, join-clear rs ss (c .1) d)
+
+-- ---- a label to which none of 7 to 10 applies has at most 63 characters
+
+pub clear-length : (P : Permits) (l : List ℕ) → Clear (labelRows P 3 l 0) → length l ≤ 63
+unfolding labelRows long
+clear-length P l c = go (isJapanese P l) (c .1 .1 .0)
+  where
+    go : (b : Bool) → ltb (pick b 15 63) (length l) ≡ false → length l ≤ 63
+    go true e = omega (arith, ltb-false 15 (length l) e)
+    go false e = omega (arith, ltb-false 63 (length l) e)
+
+-- ---- what is computed of the prefecture labels of an edition holds of each
+
+pub of-middle : (P : Permits) (f : List ℕ → Bool) (l : List ℕ) → allOf f (P .middles) ≡ true → middle P l ≡ true → f l ≡ true
+unfolding middle
+of-middle P f l w e = in-lists f l (P .middles) w e
+
+pub middle-length : (P : Permits) → allOf (λ (l : List ℕ). leb (length l) 15) (P .middles) ≡ true → (l : List ℕ) → middle P l ≡ true → length l ≤ 15
+middle-length P w l e = leb-true (length l) 15 (of-middle P (λ (l : List ℕ). leb (length l) 15) l w e)
 
 -- ---- two labels or three
 
@@ -48,7 +67,7 @@ record Passed (P : Permits) (ls : List (List ℕ)) : Type 0 where
   filled : anyOf isEmpty ls ≡ false
   left : Clear (labelRows P 3 (getD ls 0 []) 0)
   last : getD ls (length ls - 1) [] ≡ jp
-  mid : eqb (length ls) 3 && not (P .middle (getD ls 1 [])) ≡ false
+  mid : eqb (length ls) 3 && not (middle P (getD ls 1 [])) ≡ false
 
 passed : (P : Permits) (ls : List (List ℕ)) → Clear (nameRows P ls) → Passed P ls
 unfolding nameRows
@@ -76,7 +95,7 @@ module _ (P : Permits) (L : Laws P) where
   derived (a ∷ b ∷ []) w C =
       rw (C .last) (general (left-label a _ w C))
   derived (a ∷ b ∷ c ∷ []) w C =
-      rw (C .last) (prefecture (left-label a _ w C) (listed (not-false (P .middle b) (C .mid))))
+      rw (C .last) (prefecture (left-label a _ w C) (listed (not-false (middle P b) (C .mid))))
   derived (a ∷ b ∷ c ∷ d ∷ ls) w C = absurd (⊎-elim (λ e. omega arith) (λ e. omega arith) (C .count))
 
   pub clear-derives : (ls : List (List ℕ)) → allOf (allOf (labelChar P)) ls ≡ true → Clear (nameRows P ls) → Derives P (classOf ls) (join ls)
@@ -98,9 +117,9 @@ module _ (P : Permits) (L : Laws P) where
     where
       go : (b : Bool) → eqb c 0x2E ≡ b → b ≡ false
       go false p = refl
-      go true p = absurd (false≢true (rw (eqb-true c 0x2E p, L .dot) at e))
+      go true p = absurd (false≢true (rw (eqb-true c 0x2E p, low P L 0x2E (omega arith)) at e))
 
-  no-period : (l : List ℕ) → allOf (labelChar P) l ≡ true → anyOf period l ≡ false
+  pub no-period : (l : List ℕ) → allOf (labelChar P) l ≡ true → anyOf period l ≡ false
   no-period l w = all-none (labelChar P) period label-no-period l w
 
   label-fit : (c : ℕ) → labelChar P c ≡ true → unfit P c ≡ false
@@ -119,20 +138,12 @@ module _ (P : Permits) (L : Laws P) where
   unfolding labels onto period
   labels-jp = refl
 
-  label-length : (l : List ℕ) → Sound P l → length l ≤ 63
-  unfolding labelRows long
-  label-length l S = go (isJapanese P l) (S .clear .1 .1 .0)
-    where
-      go : (b : Bool) → ltb (pick b 15 63) (length l) ≡ false → length l ≤ 63
-      go true e = omega (arith, ltb-false 15 (length l) e)
-      go false e = omega (arith, ltb-false 63 (length l) e)
-
   pub named : {t : List ℕ} {k : Class} → Derives P k t → Name k t
   unfolding nameRows anyOf isEmpty jp classOf
   named (general {l = l} d) =
       let S = label-sound P L d in
       let e : labels (l ++ 0x2E ∷ 0x6A ∷ 0x70 ∷ []) ≡ l ∷ (0x6A ∷ 0x70 ∷ []) ∷ [] = labels-cut l _ (no-period l (S .chars)) ∙ rw labels-jp in
-      let n = label-length l S in
+      let n = clear-length P l (S .clear) in
       record {
         fit = fits l _ (S .chars) jp-fits;
         clear = rw e (refl, (rw (S .filled), join-clear (labelRows P 3 l 0) _ (S .clear) (ap not (same-refl jp), (refl, tt))));
@@ -142,15 +153,16 @@ module _ (P : Permits) (L : Laws P) where
       }
   named (prefecture {l = l} {m = m} d (listed p)) =
       let S = label-sound P L d in
-      let w = L .middle-chars m p in
+      let w = of-middle P (allOf (labelChar P)) m (L .middle-chars) p in
       let e : labels (l ++ 0x2E ∷ (m ++ 0x2E ∷ 0x6A ∷ 0x70 ∷ [])) ≡ l ∷ m ∷ (0x6A ∷ 0x70 ∷ []) ∷ [] =
       labels-cut l _ (no-period l (S .chars)) ∙ rw (labels-cut m (0x6A ∷ 0x70 ∷ []) (no-period m w), labels-jp) in
-      let n = label-length l S in
-      let i = L .middle-short m p in
+      let n = clear-length P l (S .clear) in
+      let i = middle-length P (L .middle-short) m p in
+      let f = of-middle P (λ (l : List ℕ). not (isEmpty l)) m (L .middle-filled) p in
       let o = length-append m (0x2E ∷ 0x6A ∷ 0x70 ∷ []) in
       record {
         fit = fits l _ (S .chars) (fits m _ w jp-fits);
-        clear = rw e (rw (L .middle-three m p), (rw (S .filled, L .middle-filled m p), join-clear (labelRows P 3 l 0) _ (S .clear) (ap not (same-refl jp), (rw p, tt))));
+        clear = rw e (rw (L .middle-three m p), (rw (S .filled, not-true (isEmpty m) f), join-clear (labelRows P 3 l 0) _ (S .clear) (ap not (same-refl jp), (rw p, tt))));
         class = rw e;
         some = omega (arith, length-append l (0x2E ∷ (m ++ 0x2E ∷ 0x6A ∷ 0x70 ∷ [])));
         few = omega (arith, length-append l (0x2E ∷ (m ++ 0x2E ∷ 0x6A ∷ 0x70 ∷ [])));

@@ -34,7 +34,7 @@ pub record Formed (v : Verdict) : Type 0 where
 
 module _ (P : Permits) (text : List ℕ) where
   -- the class of the text, where it is accepted
-  abbrev class : Class
+  abbrev pub class : Class
   class = classOf (labels (normalForm text))
 
   all-refuse : refusing (textRows P text) ≡ true
@@ -50,7 +50,7 @@ module _ (P : Permits) (text : List ℕ) where
   clear-accepted c = ap (λ (a : Answer). verdict a (labels (normalForm text))) (clear (textRows P text) c)
 
   -- number 0 leaves only the class open, and every other number has none
-  number-accepted : rules P text .number ≡ 0 → rules P text ≡ accepted class
+  pub number-accepted : rules P text .number ≡ 0 → rules P text ≡ accepted class
   number-accepted e = clear-accepted (number-clear e)
 
   class-some : class ≡ None → ⊥

@@ -7,4 +7,9 @@ pub mod Derived
 pub mod Exactly
 pub mod Today
 pub mod Steps
+pub mod Growing
+pub mod Begun
+pub mod Grown
+pub mod Hopeful
+pub mod Hopeless
 pub mod InForce

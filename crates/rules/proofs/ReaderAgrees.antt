@@ -18,7 +18,7 @@ use Rattle.rules.specs.Grammar.{label}
 use Rattle.rules.specs.Reader.{nothing, note, skip, lengthFits, ending, afterCharacter, afterHyphen, reader}
 use Rattle.rules.specs.declared.Seen.{Seen}
 use Rattle.rules.proofs.Views.{or-false}
-use Rattle.rules.proofs.Sound.{Sound, ascii-no-dot, hyphen-ascii, ascii-label, label-sound, sound-label}
+use Rattle.rules.proofs.Sound.{Sound, ascii-not, ascii-no-dot, hyphen-ascii, ascii-label, label-sound, sound-label}
 
 -- all of a list noted
 unfoldable noteAll : Permits → Seen → List ℕ → Seen
@@ -63,7 +63,7 @@ module _ (P : Permits) (L : Laws P) where
   unfolding skip note ordinary
   skip-note s x h =
       let a = hyphen-ascii x h in
-      rw (L .ascii x a, ascii-no-dot x a, or-false (s .ja), or-false (s .dot), or-false (s .ordinary))
+      rw (ascii-not P L x a, ascii-no-dot x a, or-false (s .ja), or-false (s .dot), or-false (s .ordinary))
 
   on-hyphen : (x : ℕ) (xs : List ℕ) (s : Seen) → hyphen x ≡ true → not (isEmpty xs) && goesOn P (skip s) xs ≡ goesOn P s (x ∷ xs)
   unfolding goesOn allOf noteAll endsWithHyphen isEmpty

@@ -4,7 +4,7 @@
 use mathlib.Core.Path.{_≡_, refl, sym, ap, _∙_}
 use mathlib.Core.Bool.{Bool, true, false, not, _&&_, _||_, false≢true, true≢false}
 use mathlib.Core.List.{List, [], _∷_, _++_}
-use Prim.Native.Nat.{ℕ, _+_, _≤_}
+use Prim.Native.Nat.{ℕ, _+_, _≤_, _<_}
 use native.Mathlib.Omega.{arith}
 use lib.Dec.{eqb, ltb}
 use lib.ListN.{length}
@@ -43,6 +43,17 @@ ascii-range c e = go (alnum c) refl e
     go true p q = let h = alnum-range c p in omega arith
     go false p q = let h = eqb-true c 0x2D q in omega arith
 
+-- no Japanese character stands below 3003, so none is of the ASCII set
+pub low : (P : Permits) → Laws P → (c : ℕ) → c < 0x3003 → P .japanese c ≡ false
+low P L c h = go (P .japanese c) refl
+  where
+    go : (b : Bool) → P .japanese c ≡ b → b ≡ false
+    go true p = absurd (let k = in-range 0x3003 0x9FA0 c (L .stretch c p) in omega arith)
+    go false p = refl
+
+pub ascii-not : (P : Permits) → Laws P → (c : ℕ) → asciiSet c ≡ true → P .japanese c ≡ false
+ascii-not P L c e = low P L c (let h = ascii-range c e in omega arith)
+
 pub ascii-no-dot : (c : ℕ) → asciiSet c ≡ true → middleDot c ≡ false
 unfolding middleDot
 ascii-no-dot c e = let h = ascii-range c e in ne-eqb c 0x30FB (omega arith)
@@ -62,7 +73,7 @@ ascii-alnum c e n = sym (or-false (alnum c)) ∙ (rw n at e)
 
 -- ---- ends
 
-ends-snoc : (m : List ℕ) (z : ℕ) → endsWithHyphen (m ++ (z ∷ [])) ≡ hyphen z
+pub ends-snoc : (m : List ℕ) (z : ℕ) → endsWithHyphen (m ++ (z ∷ [])) ≡ hyphen z
 unfolding endsWithHyphen
 ends-snoc [] z = refl
 ends-snoc (x ∷ []) z = refl
@@ -79,7 +90,7 @@ module _ (P : Permits) (L : Laws P) where
   edge-label c e = go (P .japanese c) refl e
     where
       no-hyphen : (b : Bool) → hyphen c ≡ b → P .japanese c ≡ true → b ≡ false
-      no-hyphen true p j = clash j (L .ascii c (hyphen-ascii c p))
+      no-hyphen true p j = clash j (ascii-not P L c (hyphen-ascii c p))
       no-hyphen false p j = refl
 
       go : (b : Bool) → P .japanese c ≡ b → b || alnum c ≡ true → (P .japanese c || asciiSet c ≡ true) × (hyphen c ≡ false)
@@ -144,7 +155,7 @@ module _ (P : Permits) (L : Laws P) where
       let pz = alnum-says z .1 q in
       let rm : allOf asciiSet m ≡ true = star-all _ _ ascii-says r in
       let all : allOf asciiSet w ≡ true = all-ends a m z asciiSet ∙ rw (alnum-ascii a pa .0, rm, alnum-ascii z pz .0) in
-      let no-ja : anyOf (P .japanese) w ≡ false = all-none asciiSet (P .japanese) (L .ascii) w all in
+      let no-ja : anyOf (P .japanese) w ≡ false = all-none asciiSet (P .japanese) (ascii-not P L) w all in
       let n : length w ≡ length m + 2 = length-ends a m z in
       let F = framed a m z (alnum-edge a pa) (all-weaker asciiSet (labelChar P) ascii-label m rm) (alnum-edge z pz) in
       record {
@@ -251,7 +262,7 @@ module _ (P : Permits) (L : Laws P) where
     where
       go : (b : Bool) → b || asciiSet c ≡ true → P .japanese c && not b ≡ false
       go true q = and-false (P .japanese c)
-      go false q = rw (L .ascii c q)
+      go false q = rw (ascii-not P L c q)
 
   or-ordinary : (c : ℕ) → labelChar P c ≡ true → ordinary P c ≡ false → exceptional c ≡ true
   unfolding exceptional exception ordinary labelChar

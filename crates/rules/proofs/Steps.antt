@@ -15,7 +15,7 @@ use Rattle.lists.proofs.Tables.{Clear, clear, clear-before, hit, passed-over, r
 use Rattle.characters.specs.Characters.{hyphen}
 use Rattle.normal.specs.Normal.{normalForm, places}
 use Rattle.rules.specs.Labels.{labels}
-use Rattle.rules.specs.Permits.{Permits, isEmpty}
+use Rattle.rules.specs.Permits.{Permits, middle, isEmpty}
 use Rattle.rules.specs.Rules.{unfit, beginsWithHyphen, endsWithHyphen, hyphenEdge, short, long, bareDot, labelRows, jp, nameRows, textRows, classOf, verdict, rules, accepted}
 use Rattle.rules.specs.declared.Class.the-variants.{None}
 use Rattle.rules.specs.declared.Verdict.{Verdict}
@@ -76,7 +76,7 @@ refused-before (r ∷ rs) ss n = go (r .applies) n (refused-before rs ss)
 
 -- 11 and 12
 abbrev lastRows : Permits → List (List ℕ) → List Row
-lastRows P ls = row 11 (not (same (getD ls (length ls - 1) []) jp)) 0 ∷ row 12 (eqb (length ls) 3 && not (P .middle (getD ls 1 []))) 0 ∷ []
+lastRows P ls = row 11 (not (same (getD ls (length ls - 1) []) jp)) 0 ∷ row 12 (eqb (length ls) 3 && not (middle P (getD ls 1 []))) 0 ∷ []
 
 module _ (P : Permits) (ls : List (List ℕ)) where
   abbrev pub byLabels : Verdict
@@ -119,11 +119,11 @@ module _ (P : Permits) (ls : List (List ℕ)) where
           name-11 f = told (past (hit 11 _ 0 _ (ap not f))) refl
 
           module _ (no-11 : same (getD ls (length ls - 1) []) jp ≡ true) where
-            pub name-12 : eqb (length ls) 3 && not (P .middle (getD ls 1 [])) ≡ true → byLabels ≡ refused 12 0
+            pub name-12 : eqb (length ls) 3 && not (middle P (getD ls 1 [])) ≡ true → byLabels ≡ refused 12 0
             unfolding verdict
             name-12 f = told (past (passed-over 11 _ 0 _ (ap not no-11) ∙ hit 12 _ 0 _ f)) refl
 
-            pub name-0 : eqb (length ls) 3 && not (P .middle (getD ls 1 [])) ≡ false → byLabels ≡ accepted (classOf ls)
+            pub name-0 : eqb (length ls) 3 && not (middle P (getD ls 1 [])) ≡ false → byLabels ≡ accepted (classOf ls)
             unfolding verdict
             name-0 f = told (past (clear (lastRows P ls) (ap not no-11, (f, tt)))) refl
 

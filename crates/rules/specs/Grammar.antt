@@ -6,7 +6,7 @@ use mathlib.Core.List.{List, [], _∷_, _++_}
 use mathlib.Core.Path.{_≡_}
 use Prim.Native.Nat.{ℕ, _≤_}
 use lib.ListN.{length}
-use Rattle.rules.specs.Permits.{Permits}
+use Rattle.rules.specs.Permits.{Permits, middle}
 use Rattle.rules.specs.declared.Class.{Class}
 use Rattle.rules.specs.declared.Class.the-variants.{General, Prefecture}
 
@@ -81,7 +81,7 @@ module _ (P : Permits) where
     a-japanese : {l : List ℕ} → JA-label l → label l
 
   pub data prefecture-label (l : List ℕ) : Type 0 where
-    listed : P .middle l ≡ true → prefecture-label l
+    listed : middle P l ≡ true → prefecture-label l
 
   -- general-use name (document 003) = label ".JP"; prefecture-JPDN = label "." prefecture-label ".JP"
   pub data Derives : Class → List ℕ → Type 0 where

@@ -6,3 +6,5 @@ pub mod Reader
 pub mod Prefectures
 pub mod Editions
 pub mod Tried
+pub mod Hopeful
+pub mod HopefulTried

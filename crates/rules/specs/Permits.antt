@@ -1,17 +1,18 @@
 -- What an edition of the rules permits: grammar, rules and theorems are stated over it, and an edition is one value.
-use mathlib.Core.Bool.{Bool, true, false, _||_}
+use mathlib.Core.Bool.{Bool, true, false, not, _||_}
 use mathlib.Core.List.{List, [], _∷_}
 use mathlib.Core.Path.{_≡_}
-use Prim.Native.Nat.{ℕ, _≤_}
+use Prim.Native.Nat.{ℕ}
+use lib.Dec.{leb}
 use lib.ListN.{length}
-use Rattle.lists.specs.Tests.{allOf}
+use Rattle.lists.specs.Tests.{within, allOf, anyOf, same}
 use Rattle.characters.specs.Characters.{asciiSet}
 
 pub record Permits : Type 0 where
   -- which code points are Japanese characters
   pub japanese : ℕ → Bool
-  -- which labels are prefecture labels
-  pub middle : List ℕ → Bool
+  -- its prefecture labels
+  pub middles : List (List ℕ)
   -- whether a name may have three labels
   pub three : Bool
 
@@ -19,16 +20,22 @@ pub record Permits : Type 0 where
 unfoldable pub labelChar : Permits → ℕ → Bool
 labelChar P c = P .japanese c || asciiSet c
 
+-- one of its prefecture labels
+unfoldable pub middle : Permits → List ℕ → Bool
+middle P l = anyOf (same l) (P .middles)
+
 unfoldable pub isEmpty : List ℕ → Bool
 isEmpty [] = true
 isEmpty (x ∷ xs) = false
 
 -- what the theorems ask of an edition
 pub record Laws (P : Permits) : Type 0 where
-  pub ascii : (c : ℕ) → asciiSet c ≡ true → P .japanese c ≡ false
-  pub dot : P .japanese 0x2E ≡ false
-  pub middle-chars : (l : List ℕ) → P .middle l ≡ true → allOf (labelChar P) l ≡ true
-  pub middle-filled : (l : List ℕ) → P .middle l ≡ true → isEmpty l ≡ false
-  pub middle-three : (l : List ℕ) → P .middle l ≡ true → P .three ≡ true
-  -- so that no derivable name is lost to the limit of 256 code points
-  pub middle-short : (l : List ℕ) → P .middle l ≡ true → length l ≤ 60
+  -- the stretch of the Japanese characters: none is of the ASCII set or a period, and each is a scalar value
+  pub stretch : (c : ℕ) → P .japanese c ≡ true → within 0x3003 0x9FA0 c ≡ true
+  -- each prefecture label holds only what a label may hold, is not empty, and is short: so that no derivable name is lost to the
+  -- limit of 256 code points, and so that each can be encoded
+  pub middle-chars : allOf (allOf (labelChar P)) (P .middles) ≡ true
+  pub middle-filled : allOf (λ (l : List ℕ). not (isEmpty l)) (P .middles) ≡ true
+  pub middle-short : allOf (λ (l : List ℕ). leb (length l) 15) (P .middles) ≡ true
+  -- where there is one, a name may have three labels
+  pub middle-three : (l : List ℕ) → middle P l ≡ true → P .three ≡ true

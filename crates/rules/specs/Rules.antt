@@ -9,7 +9,7 @@ use Rattle.lists.specs.Rows.{Row, row, Answer, first}
 use Rattle.characters.specs.Characters.{hyphen}
 use Rattle.normal.specs.Normal.{normalForm, places}
 use Rattle.rules.specs.Labels.{period, labels}
-use Rattle.rules.specs.Permits.{Permits, labelChar, isEmpty}
+use Rattle.rules.specs.Permits.{Permits, labelChar, middle, isEmpty}
 use Rattle.rules.specs.declared.Class.{Class}
 use Rattle.rules.specs.declared.Class.the-variants.{None, General, Prefecture}
 use Rattle.rules.specs.declared.Verdict.{Verdict}
@@ -78,7 +78,7 @@ nameRows P ls =
     row 6 (anyOf isEmpty ls) (firstOf isEmpty ls) ∷
     (labelRows P 3 (getD ls 0 []) 0 ++
     row 11 (not (same (getD ls (length ls - 1) []) jp)) 0 ∷
-    row 12 (eqb (length ls) 3 && not (P .middle (getD ls 1 []))) 0 ∷
+    row 12 (eqb (length ls) 3 && not (middle P (getD ls 1 []))) 0 ∷
     [])
 
 -- 2 to 12, of an application text

@@ -10,10 +10,10 @@ use Rattle.characters.specs.Replace.{ranges, rangeIn, halfKana, isHalf, replace
 use Rattle.characters.specs.Compose.{voiced, repeats, halfVoiced, eitherKana, composed}
 use Rattle.normal.specs.Normal.{replacedFrom, compose, normalPlaced, normalForm, places}
 use Rattle.rules.specs.Labels.{period, onto, labels}
-use Rattle.rules.specs.Permits.{labelChar, isEmpty}
+use Rattle.rules.specs.Permits.{labelChar, middle, isEmpty}
 use Rattle.rules.specs.Rules.{unfit, middleDot, ordinary, isJapanese, beginsWithHyphen, endsWithHyphen, hyphenEdge, short, long, bareDot, labelRows, jp, nameRows, textRows, classOf, verdict, rules, accepted}
 use Rattle.rules.specs.Prefectures.{prefectures}
-use Rattle.rules.specs.Editions.{isPrefecture, today}
+use Rattle.rules.specs.Editions.{today}
 use Rattle.rules.specs.declared.Class.{Class}
 use Rattle.rules.specs.declared.Class.the-variants.{None, General, Prefecture}
 
@@ -59,5 +59,5 @@ table =
     []
 
 pub tried : Holds table
-unfolding within allOf anyOf firstOf elem same first kanji alnum hyphen asciiSet hiragana katakana signs japaneseBy japanese ranges rangeIn halfKana isHalf replaceIn replace voiced repeats halfVoiced eitherKana composed replacedFrom compose normalPlaced normalForm places period onto labels labelChar isEmpty unfit middleDot ordinary isJapanese beginsWithHyphen endsWithHyphen hyphenEdge short long bareDot labelRows jp nameRows textRows classOf verdict rules prefectures isPrefecture today
+unfolding within allOf anyOf firstOf elem same first kanji alnum hyphen asciiSet hiragana katakana signs japaneseBy japanese ranges rangeIn halfKana isHalf replaceIn replace voiced repeats halfVoiced eitherKana composed replacedFrom compose normalPlaced normalForm places period onto labels labelChar isEmpty unfit middleDot ordinary isJapanese beginsWithHyphen endsWithHyphen hyphenEdge short long bareDot labelRows jp nameRows textRows classOf verdict rules prefectures middle today
 tried = (refl, refl, (refl, refl, (refl, (refl, refl, (refl, refl, (refl, (refl, (refl, refl, (refl, refl, (refl, (refl, (refl, (refl, refl, (refl, tt))))))))))))))

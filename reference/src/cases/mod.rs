@@ -4,6 +4,7 @@
 pub mod characters;
 pub mod coder;
 pub mod desk;
+pub mod hope;
 pub mod lines;
 pub mod names;
 pub mod random;
@@ -103,5 +104,6 @@ pub fn all_lines() -> Vec<String> {
     characters::add(&mut file);
     desk::add(&mut file);
     random::add(&mut file);
+    hope::add(&mut file);
     file.into_lines()
 }

@@ -82,12 +82,17 @@ fn counted_after_composition() -> Vec<String> {
     ]
 }
 
-/// Each name by every call, with the live check on each of its beginnings.
-pub fn add(file: &mut CaseFile) {
+/// The tried names and the invited errors.
+pub fn texts() -> Vec<String> {
     let tried = names().into_iter().map(|name| name.0);
     let fixed = [&ACROSS[..], &TWICE, &LOWERED, &DOTTED, &SHORT_LAST].concat();
     let invited = fixed.into_iter().map(String::from).chain(counted_after_composition());
-    for text in tried.chain(invited) {
+    tried.chain(invited).collect()
+}
+
+/// Each name by every call, with the live check on each of its beginnings.
+pub fn add(file: &mut CaseFile) {
+    for text in texts() {
         let text = points(&text);
         file.everything(&text);
         file.add('S', 0, &text);

@@ -1,6 +1,8 @@
 -- `look_with` meets its contract: past 256 it shows `tooLong`, else what the judge says of the text held.
 -- Assumes nothing.
 use mathlib.Core.Path.{_∙_}
+use Rattle.names.specs.Calls.{judged}
+use Rattle.live.specs.Live.{looked}
 use Rattle.live.proofs.Looking.{over, within}
 use borrow.Author.Needs.{needs}
 use Rattle.live.proofs.Live.look_with.Statement.{statement}
@@ -10,7 +12,8 @@ too-long-requires : tie.Need-too-long-requires
 too-long-requires c κs = search needs
 
 returns : tie.Need-returns
-returns c = c .too-long .ensures ∙ over _ (c .before .before .before .args .t1) (c .before .if1 .taken)
+unfolding looked
+returns c = c .too-long .ensures ∙ over _ _ (c .before .before .before .args .t1) (c .before .if1 .taken)
 
 sub-judge-with : tie.Need-sub-judge-with
 sub-judge-with c = search needs
@@ -25,9 +28,10 @@ judge-with-requires : tie.Need-judge-with-requires
 judge-with-requires c κs = search needs
 
 returns-2 : tie.Need-returns-2
+unfolding looked
 returns-2 c =
     let start = c .before .before .before .before .before .before .before in
-    c .judge-with .ensures ∙ within _ (start .args .t1) (c .before .before .before .before .before .if1 .left)
+    c .judge-with .ensures ∙ within (judged _) _ (start .args .t1) (c .before .before .before .before .before .if1 .left)
 
 pub look-with-spec : {M : Type 1} → statement M
 look-with-spec =

@@ -54,13 +54,13 @@ accepted-requires c κs = search needs
 
 returns-6 : tie.Need-returns-6
 unfolding classOf
-returns-6 c = c .accepted .ensures ∙ sym (name-0 _ _ (may-three _) (three-filled _ _ _ (c .before .before .before .before .before .before .before .before .before .if1 .left) (c .before .before .before .before .before .before .before .before .if2 .left) (c .before .before .before .before .before .before .before .if3 .left)) (c .before .before .before .before .before .before .left-rule .ensures) (c .before .before .before .before .before .if4 .left) (sym (c .before .before .before .before .is-jp .ensures) ∙ not-false _ (c .before .before .before .if5 .left)) (middle-is _ _ (c .before .before .is-prefecture .ensures) ∙ ap not (c .before .if6 .taken)))
+returns-6 c = c .accepted .ensures ∙ sym (name-0 _ _ (may-three _) (three-filled _ _ _ (c .before .before .before .before .before .before .before .before .before .if1 .left) (c .before .before .before .before .before .before .before .before .if2 .left) (c .before .before .before .before .before .before .before .if3 .left)) (c .before .before .before .before .before .before .left-rule .ensures) (c .before .before .before .before .before .if4 .left) (sym (c .before .before .before .before .is-jp .ensures) ∙ not-false _ (c .before .before .before .if5 .left)) (ap not (sym (middle-is _ _ (c .before .before .is-prefecture .ensures)) ∙ c .before .if6 .taken)))
 
 refused-requires-6 : tie.Need-refused-requires-6
 refused-requires-6 c κs = search needs
 
 returns-7 : tie.Need-returns-7
-returns-7 c = c .refused6 .ensures ∙ sym (name-12 _ _ (may-three _) (three-filled _ _ _ (c .before .before .before .before .before .before .before .before .before .if1 .left) (c .before .before .before .before .before .before .before .before .if2 .left) (c .before .before .before .before .before .before .before .if3 .left)) (c .before .before .before .before .before .before .left-rule .ensures) (c .before .before .before .before .before .if4 .left) (sym (c .before .before .before .before .is-jp .ensures) ∙ not-false _ (c .before .before .before .if5 .left)) (middle-is _ _ (c .before .before .is-prefecture .ensures) ∙ ap not (c .before .if6 .left)))
+returns-7 c = c .refused6 .ensures ∙ sym (name-12 _ _ (may-three _) (three-filled _ _ _ (c .before .before .before .before .before .before .before .before .before .if1 .left) (c .before .before .before .before .before .before .before .before .if2 .left) (c .before .before .before .before .before .before .before .if3 .left)) (c .before .before .before .before .before .before .left-rule .ensures) (c .before .before .before .before .before .if4 .left) (sym (c .before .before .before .before .is-jp .ensures) ∙ not-false _ (c .before .before .before .if5 .left)) (ap not (sym (middle-is _ _ (c .before .before .is-prefecture .ensures)) ∙ c .before .if6 .left)))
 
 pub three-labels-spec : {M : Type 1} → statement M
 three-labels-spec =

@@ -3,16 +3,17 @@
 use Prim.Native.Nat.{_-_}
 use native.Mathlib.Omega.{arith}
 use lib.ListN.{length}
+use Rattle.names.specs.Steps.{isPart}
 use Rattle.names.proofs.Middle.{Left, at-first, bounds, part-here, part-on, part-end}
 use borrow.Author.Needs.{needs}
 use Rattle.names.proofs.middles.any_part.Statement.{statement}
 use Rattle.names.proofs.middles.any_part.Tie as tie
 
 abbrev Inv-loop : tie.InvT-loop
-Inv-loop table starts label i₀ i = Left table starts label i
+Inv-loop table starts label whole i₀ i = Left (isPart whole label) table starts i
 
 abbrev μ-loop : tie.MeasureT-loop
-μ-loop table starts label i₀ i = length starts - i
+μ-loop table starts label whole i₀ i = length starts - i
 
 loop-holds : tie.Need-loop-holds Inv-loop μ-loop
 loop-holds c = at-first _ _ _ (c .before .before .before .pre)
@@ -32,23 +33,23 @@ mul-b c = search needs
 shared-slice-read-b : tie.Need-shared-slice-read-b Inv-loop μ-loop
 shared-slice-read-b c = search needs
 
-mul-same : tie.Need-mul-same Inv-loop μ-loop
-mul-same c = record { fits = omega (arith, bounds _ _ _ _ (c .before .before .before .loop .inv) (omega arith), c .before .before .before .before .before .before .before .good .0 .1) }
+mul-is-part : tie.Need-mul-is-part Inv-loop μ-loop
+mul-is-part c = record { fits = omega (arith, bounds _ _ _ _ (c .before .before .before .loop .inv) (omega arith), c .before .before .before .before .before .before .before .good .0 .1) }
 
-sub-same : tie.Need-sub-same Inv-loop μ-loop
-sub-same c = let b = bounds _ _ _ _ (c .before .before .before .loop .inv) (omega arith) in omega arith
+sub-is-part : tie.Need-sub-is-part Inv-loop μ-loop
+sub-is-part c = let b = bounds _ _ _ _ (c .before .before .before .loop .inv) (omega arith) in omega arith
 
-part-same-start : tie.Need-part-same-start Inv-loop μ-loop
-part-same-start c = let b = bounds _ _ _ _ (c .before .before .before .loop .inv) (omega arith) in omega arith
+part-is-part-start : tie.Need-part-is-part-start Inv-loop μ-loop
+part-is-part-start c = let b = bounds _ _ _ _ (c .before .before .before .loop .inv) (omega arith) in omega arith
 
-part-same-end : tie.Need-part-same-end Inv-loop μ-loop
-part-same-end c = let b = bounds _ _ _ _ (c .before .before .before .loop .inv) (omega arith) in omega arith
+part-is-part-end : tie.Need-part-is-part-end Inv-loop μ-loop
+part-is-part-end c = let b = bounds _ _ _ _ (c .before .before .before .loop .inv) (omega arith) in omega arith
 
-same-requires : tie.Need-same-requires Inv-loop μ-loop
-same-requires c κs = search needs
+is-part-requires : tie.Need-is-part-requires Inv-loop μ-loop
+is-part-requires c κs = search needs
 
 returns : tie.Need-returns Inv-loop μ-loop
-returns c = part-here _ _ _ _ (c .before .before .before .before .before .before .loop .inv) (omega arith) (c .before .same .ensures) (c .if1 .taken)
+returns c = part-here _ _ _ _ (c .before .before .before .before .before .before .loop .inv) (omega arith) (c .before .is-part .ensures) (c .if1 .taken)
 
 add-i : tie.Need-add-i Inv-loop μ-loop
 add-i c = search needs
@@ -57,7 +58,7 @@ loop-less : tie.Need-loop-less Inv-loop μ-loop
 loop-less c = search needs
 
 loop-again : tie.Need-loop-again Inv-loop μ-loop
-loop-again c = part-on _ _ _ _ (c .before .before .before .before .before .before .loop .inv) (omega arith) (c .before .same .ensures) (c .if1 .left)
+loop-again c = part-on _ _ _ _ (c .before .before .before .before .before .before .loop .inv) (omega arith) (c .before .is-part .ensures) (c .if1 .left)
 
 returns-2 : tie.Need-returns-2 Inv-loop μ-loop
 returns-2 c = part-end _ _ _ _ (c .before .loop .inv) (omega arith)
@@ -74,11 +75,11 @@ any-part-spec =
     shared-slice-read-a
     mul-b
     shared-slice-read-b
-    mul-same
-    sub-same
-    part-same-start
-    part-same-end
-    same-requires
+    mul-is-part
+    sub-is-part
+    part-is-part-start
+    part-is-part-end
+    is-part-requires
     returns
     add-i
     loop-less

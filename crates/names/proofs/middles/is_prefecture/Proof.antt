@@ -2,8 +2,7 @@
 -- Assumes nothing.
 use mathlib.Core.Path.{refl}
 use Rattle.rules.specs.Prefectures.{prefectures}
-use Rattle.rules.specs.Editions.{isPrefecture}
-use Rattle.names.specs.Steps.{parts, inOrder}
+use Rattle.names.specs.Steps.{isPart, parts, inOrder}
 use borrow.Author.Needs.{needs}
 use Rattle.names.proofs.middles.is_prefecture.Statement.{statement}
 use Rattle.names.proofs.middles.is_prefecture.Tie as tie
@@ -19,7 +18,7 @@ unfolding inOrder
 any-part-requires c κs = refl
 
 returns : tie.Need-returns
-unfolding isPrefecture prefectures parts
+unfolding prefectures isPart parts
 returns c = c .any-part .ensures
 
 pub is-prefecture-spec : {M : Type 1} → statement M

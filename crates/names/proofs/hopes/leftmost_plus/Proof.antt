@@ -1,0 +1,75 @@
+-- `leftmost_plus` meets its contract: the array holds the label and c after it.
+-- Assumes nothing.
+use mathlib.Core.Path.{refl, ap, _∙_}
+use native.Mathlib.Omega.{arith}
+use lib.ListN.{length, length-set, replicate}
+use Rattle.rules.specs.Hopeful.{leftmost}
+use Rattle.names.proofs.Hoping.{too-long, with-more}
+use borrow.Author.Needs.{needs}
+use Rattle.names.proofs.hopes.leftmost_plus.Statement.{statement}
+use Rattle.names.proofs.hopes.leftmost_plus.Tie as tie
+use Rattle.names.proofs.hopes.leftmost_plus.Reads as reads
+use Rattle.names.proofs.hopes.leftmost_plus.Lts as lts
+use Rattle.lists.proofs.copy.Reads as copy-reads
+use Rattle.names.proofs.hopes.is_leftmost.Reads as is-leftmost-reads
+
+returns : tie.Need-returns
+returns c = too-long _ (c .before .before .before .args .label .now) (c .before .before .before .args .c) (c .if1 .taken)
+
+slice-aggregate-copy : tie.Need-slice-aggregate-copy
+slice-aggregate-copy c = search needs
+
+copy-requires : tie.Need-copy-requires
+copy-requires c κs = search needs
+
+mul-longer : tie.Need-mul-longer
+mul-longer c = search needs
+
+array-write-longer : tie.Need-array-write-longer
+array-write-longer c = search needs
+
+slice-aggregate-whole : tie.Need-slice-aggregate-whole
+slice-aggregate-whole c = search needs
+
+add-is-leftmost : tie.Need-add-is-leftmost
+add-is-leftmost c = search needs
+
+sub-is-leftmost : tie.Need-sub-is-leftmost
+sub-is-leftmost c = search needs
+
+part-is-leftmost-start : tie.Need-part-is-leftmost-start
+part-is-leftmost-start c = search needs
+
+part-is-leftmost-end : tie.Need-part-is-leftmost-end
+part-is-leftmost-end c = omega (arith, c .before .before .copy .kept .1 .0, length-set (c .before .before .copy .last .1 .0) (length (c .before .before .before .before .before .before .before .args .label .now)) (c .before .before .before .before .before .before .before .args .c))
+
+is-leftmost-requires : tie.Need-is-leftmost-requires
+is-leftmost-requires c κs =
+    let a = c .before .before .before .before .before .before .before .before .args in
+    let k = c .before .before .before .copy in
+    rw (with-more (a .label .now) (replicate 64 0) (k .last .1 .0) (a .c) (k .ensures) refl (c .before .before .before .before .before .if1 .left) (k .kept .1 .0))
+    (c .before .before .before .before .before .before .before .before .pre)
+
+returns-2 : tie.Need-returns-2
+returns-2 c =
+    let a = c .before .before .before .before .before .before .before .before .before .args in
+    let k = c .before .before .before .before .copy in
+    c .is-leftmost .ensures
+    ∙ ap (leftmost _) (with-more (a .label .now) (replicate 64 0) (k .last .1 .0) (a .c) (k .ensures) refl (c .before .before .before .before .before .before .if1 .left) (k .kept .1 .0))
+
+pub leftmost-plus-spec : {M : Type 1} → statement M
+leftmost-plus-spec =
+    tie.close
+    (tie.spec
+    returns
+    slice-aggregate-copy
+    copy-requires
+    mul-longer
+    array-write-longer
+    slice-aggregate-whole
+    add-is-leftmost
+    sub-is-leftmost
+    part-is-leftmost-start
+    part-is-leftmost-end
+    is-leftmost-requires
+    returns-2)

@@ -1,0 +1,147 @@
+-- What may grow is carried on to a derived name by characters that nothing replaces and no mark: what was tried, and the rest of a prefecture
+-- label, of a period and of jp.
+-- Assumes nothing.
+use mathlib.Core.Path.{_≡_, refl, sym, _∙_}
+use mathlib.Core.Bool.{Bool, true, false, _||_, false≢true}
+use mathlib.Core.List.{List, [], _∷_, _++_, append-assoc}
+use Prim.Native.Nat.{ℕ}
+use native.Mathlib.Omega.{arith}
+use Rattle.lists.specs.Tests.{within, allOf, anyOf}
+use Rattle.lists.proofs.Laws.{both, or-right, in-range, all-append, all-weaker}
+use Rattle.characters.specs.Characters.{alnum, asciiSet}
+use Rattle.characters.specs.Replace.{ranges, rangeIn, isHalf, replaceIn, replace}
+use Rattle.characters.proofs.Classes.{stays, ascii-stays}
+use Rattle.normal.proofs.Unchanged.{unchanged, unchanged-by}
+use Rattle.rules.specs.Labels.{join}
+use Rattle.rules.specs.Permits.{Permits, Laws, labelChar, middle}
+use Rattle.rules.specs.Rules.{jp}
+use Rattle.rules.specs.Grammar.{Derives, general, prefecture, listed}
+use Rattle.rules.specs.Hopeful.{begins, leftmost, tries, grows, settled, Hopes}
+use Rattle.rules.specs.declared.Class.{Class}
+use Rattle.rules.specs.declared.Class.the-variants.{General, Prefecture}
+use Rattle.rules.proofs.Sound.{Sound, ascii-range, sound-label}
+use Rattle.rules.proofs.Derived.{of-middle}
+use Rattle.rules.proofs.Growing.{begins-is, one-of, leftmost-sound}
+
+abbrev dotJp : List ℕ
+dotJp = 0x2E ∷ 0x6A ∷ 0x70 ∷ []
+
+-- ---- what stays as it is
+
+settled-unchanged : (c : ℕ) → settled c ≡ true → unchanged c ≡ true
+unfolding settled
+settled-unchanged c e = go (asciiSet c) refl e
+  where
+    go : (b : Bool) → asciiSet c ≡ b → b || within 0x4E00 0x9FA0 c ≡ true → unchanged c ≡ true
+    go true p q = let h = ascii-range c p in unchanged-by c (ascii-stays c p) (λ z. omega arith) (λ z. omega arith)
+    go false p q = let h = in-range 0x4E00 0x9FA0 c q in unchanged-by c (stays c (omega arith) (omega arith)) (λ z. omega arith) (λ z. omega arith)
+
+dot-jp-unchanged : allOf unchanged dotJp ≡ true
+unfolding allOf unchanged replace replaceIn isHalf ranges rangeIn within
+dot-jp-unchanged = refl
+
+jp-unchanged : allOf unchanged jp ≡ true
+unfolding jp allOf
+jp-unchanged = both (unchanged 0x2E) (allOf unchanged (0x6A ∷ 0x70 ∷ [])) dot-jp-unchanged .1
+
+unchanged-rest : (w l r : List ℕ) → w ≡ l ++ r → allOf unchanged w ≡ true → allOf unchanged r ≡ true
+unchanged-rest w l r e u = both (allOf unchanged l) (allOf unchanged r) (sym (all-append unchanged l r) ∙ (rw e at u)) .1
+
+unchanged-jp : (r : List ℕ) → allOf unchanged r ≡ true → allOf unchanged (r ++ dotJp) ≡ true
+unchanged-jp r u = all-append unchanged r dotJp ∙ rw u dot-jp-unchanged
+
+module _ (P : Permits) (H : Hopes P) where
+  abbrev L : Laws P
+  L = H .laws
+
+  -- a text that more such characters carry on to a derived name
+  pub record Grown (t : List ℕ) : Type 0 where
+    pub more : List ℕ
+    pub kind : Class
+    pub plain : allOf unchanged more ≡ true
+    pub derives : Derives P kind (t ++ more)
+
+  module _ (l : List ℕ) (w : allOf (labelChar P) l ≡ true) where
+    -- ---- one label
+
+    first-on : (r : List ℕ) → allOf (labelChar P) r ≡ true → allOf unchanged r ≡ true → leftmost P (l ++ r) ≡ true → Grown l
+    first-on r v u e = record {
+      more = r ++ dotJp;
+      kind = General;
+      plain = unchanged-jp r u;
+      derives =
+          rw (← append-assoc l r dotJp)
+          (general (sound-label P L (leftmost-sound P (l ++ r) (all-append (labelChar P) l r ∙ rw (w, v)) e)));
+    }
+
+    first-grown : anyOf (λ (r : List ℕ). leftmost P (l ++ r)) tries ≡ true → Grown l
+    unfolding tries anyOf allOf labelChar asciiSet alnum within unchanged replace replaceIn isHalf ranges rangeIn
+    first-grown e = go (leftmost P (l ++ [])) refl (leftmost P (l ++ 0x3042 ∷ [])) refl (leftmost P (l ++ 0x61 ∷ [])) refl e
+      where
+        go : (a : Bool) → leftmost P (l ++ []) ≡ a → (b : Bool) → leftmost P (l ++ 0x3042 ∷ []) ≡ b → (c : Bool) → leftmost P (l ++ 0x61 ∷ []) ≡ c
+            → a || (b || (c || false)) ≡ true → Grown l
+        go true p b q c s h = first-on [] refl refl p
+        go false p true q c s h = first-on (0x3042 ∷ []) (rw (H .tried)) refl q
+        go false p false q true s h = first-on (0x61 ∷ []) (rw (or-right (P .japanese 0x61) true refl)) refl s
+        go false p false q false s h = absurd (false≢true h)
+
+    -- ---- two labels, and three
+
+    module _ (S : leftmost P l ≡ true) where
+      left : Sound P l
+      left = leftmost-sound P l w S
+
+      jp-on : (m : List ℕ) → begins m jp ≡ true → Grown (l ++ 0x2E ∷ m)
+      unfolding jp
+      jp-on m e =
+          let k = begins-is m jp e in
+          record {
+            more = k .0;
+            kind = General;
+            plain = unchanged-rest jp m (k .0) (k .1) jp-unchanged;
+            derives = rw (append-assoc l (0x2E ∷ m) (k .0), ← k .1) (general (sound-label P L left));
+          }
+
+      middle-on : (m : List ℕ) → anyOf (begins m) (P .middles) ≡ true → Grown (l ++ 0x2E ∷ m)
+      middle-on m e =
+          let c = one-of (begins m) (P .middles) e in
+          let k = begins-is m (c .0) (c .1) in
+          let p : middle P (c .0) ≡ true = unfold middle in c .2 in
+          let u = all-weaker settled unchanged settled-unchanged (c .0) (of-middle P (allOf settled) (c .0) (H .middle-settled) p) in
+          record {
+            more = k .0 ++ dotJp;
+            kind = Prefecture;
+            plain = unchanged-jp (k .0) (unchanged-rest (c .0) m (k .0) (k .1) u);
+            derives =
+                rw (append-assoc l (0x2E ∷ m) (k .0 ++ dotJp), ← append-assoc m (k .0) dotJp, ← k .1) (prefecture (sound-label P L left) (listed p));
+          }
+
+      last-on : (m z : List ℕ) → middle P m ≡ true → begins z jp ≡ true → Grown (l ++ 0x2E ∷ (m ++ 0x2E ∷ z))
+      unfolding jp
+      last-on m z p e =
+          let k = begins-is z jp e in
+          record {
+            more = k .0;
+            kind = Prefecture;
+            plain = unchanged-rest jp z (k .0) (k .1) jp-unchanged;
+            derives =
+                rw (append-assoc l (0x2E ∷ (m ++ 0x2E ∷ z)) (k .0), append-assoc m (0x2E ∷ z) (k .0), ← k .1)
+                (prefecture (sound-label P L left) (listed p));
+          }
+
+  pub grown : (ls : List (List ℕ)) → allOf (allOf (labelChar P)) ls ≡ true → grows P ls ≡ true → Grown (join ls)
+  unfolding grows join allOf
+  grown [] w e = absurd (false≢true e)
+  grown (l ∷ []) w e = first-grown l (both (allOf (labelChar P) l) true w .0) e
+  grown (l ∷ m ∷ []) w e =
+      let k = both (leftmost P l) _ e in
+      go (begins m jp) refl (k .0) (k .1) (both (allOf (labelChar P) l) _ w .0)
+    where
+      go : (b : Bool) → begins m jp ≡ b → leftmost P l ≡ true → b || anyOf (begins m) (P .middles) ≡ true → allOf (labelChar P) l ≡ true → Grown (l ++ 0x2E ∷ m)
+      go true p S q v = jp-on l v S m p
+      go false p S q v = middle-on l v S m q
+  grown (l ∷ m ∷ z ∷ []) w e =
+      let k = both (leftmost P l) _ e in
+      let h = both (middle P m) (begins z jp) (k .1) in
+      last-on l (both (allOf (labelChar P) l) _ w .0) (k .0) m z (h .0) (h .1)
+  grown (l ∷ m ∷ z ∷ y ∷ ls) w e = absurd (false≢true e)

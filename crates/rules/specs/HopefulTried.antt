@@ -1,0 +1,80 @@
+-- Texts that may yet become a name, and texts refused for good, as one table under one statement.
+use mathlib.Core.Path.{_≡_, refl}
+use mathlib.Core.Bool.{Bool, true, false}
+use mathlib.Core.List.{List, [], _∷_, _++_}
+use Prim.Native.Nat.{ℕ}
+use lib.ListN.{replicate}
+use Rattle.lists.specs.Tests.{within, allOf, anyOf, firstOf, elem, same}
+use Rattle.lists.specs.Rows.{first}
+use Rattle.characters.specs.Kanji.{kanji}
+use Rattle.characters.specs.Characters.{alnum, hyphen, asciiSet, hiragana, katakana, signs, japaneseBy, japanese}
+use Rattle.characters.specs.Replace.{ranges, rangeIn, halfKana, isHalf, replaceIn, replace}
+use Rattle.characters.specs.Compose.{voiced, repeats, halfVoiced, eitherKana, composed}
+use Rattle.normal.specs.Normal.{replacedFrom, compose, normalPlaced, normalForm, places}
+use Rattle.rules.specs.Labels.{period, onto, labels}
+use Rattle.rules.specs.Permits.{labelChar, middle, isEmpty}
+use Rattle.rules.specs.Rules.{unfit, middleDot, ordinary, isJapanese, beginsWithHyphen, endsWithHyphen, hyphenEdge, short, long, bareDot, labelRows, jp}
+use Rattle.rules.specs.Prefectures.{prefectures}
+use Rattle.rules.specs.Editions.{today}
+use Rattle.rules.specs.Hopeful.{begins, leftmost, tries, grows, hopeful}
+
+abbrev says : List (List ℕ) → List Bool
+says [] = []
+says (t ∷ ts) = hopeful today t ∷ says ts
+
+abbrev hiraganas : ℕ → List ℕ
+hiraganas n = replicate n 0x3042
+
+abbrev yes : List (List ℕ)
+yes =
+    -- nothing; a; ab; abc; abc. ; abc 3002 FF2A; abc.jp
+    [] ∷
+    (0x61 ∷ []) ∷
+    (0x61 ∷ 0x62 ∷ []) ∷
+    (0x61 ∷ 0x62 ∷ 0x63 ∷ []) ∷
+    (0x61 ∷ 0x62 ∷ 0x63 ∷ 0x2E ∷ []) ∷
+    (0x61 ∷ 0x62 ∷ 0x63 ∷ 0x3002 ∷ 0xFF2A ∷ []) ∷
+    (0x61 ∷ 0x62 ∷ 0x63 ∷ 0x2E ∷ 0x6A ∷ 0x70 ∷ []) ∷
+    -- abc.tok; abc.tokyo; abc.tokyo.j
+    (0x61 ∷ 0x62 ∷ 0x63 ∷ 0x2E ∷ 0x74 ∷ 0x6F ∷ 0x6B ∷ []) ∷
+    (0x61 ∷ 0x62 ∷ 0x63 ∷ 0x2E ∷ 0x74 ∷ 0x6F ∷ 0x6B ∷ 0x79 ∷ 0x6F ∷ []) ∷
+    (0x61 ∷ 0x62 ∷ 0x63 ∷ 0x2E ∷ 0x74 ∷ 0x6F ∷ 0x6B ∷ 0x79 ∷ 0x6F ∷ 0x2E ∷ 0x6A ∷ []) ∷
+    -- a- ; the middle dot alone; fourteen of them; fifteen hiragana; thirteen and a hyphen; 63 letters; 61 and a hyphen
+    (0x61 ∷ 0x2D ∷ []) ∷
+    (0x30FB ∷ []) ∷
+    replicate 14 0x30FB ∷
+    hiraganas 15 ∷
+    (hiraganas 13 ++ 0x2D ∷ []) ∷
+    replicate 63 0x61 ∷
+    (replicate 61 0x61 ++ 0x2D ∷ []) ∷
+    -- sixteen code points, fifteen characters
+    (hiraganas 14 ++ 0xFF76 ∷ 0xFF9E ∷ []) ∷
+    []
+
+abbrev no : List (List ℕ)
+no =
+    -- - ; a blank; a mark after what is no base; a period; ab. ; the middle dot and a period
+    (0x2D ∷ []) ∷
+    (0x61 ∷ 0x20 ∷ []) ∷
+    (0x3046 ∷ 0x309B ∷ []) ∷
+    (0x2E ∷ []) ∷
+    (0x61 ∷ 0x62 ∷ 0x2E ∷ []) ∷
+    (0x30FB ∷ 0x2E ∷ []) ∷
+    -- abc.c- ; abc.jpx; abc.jp. ; abc.toki; abc.tok.
+    (0x61 ∷ 0x62 ∷ 0x63 ∷ 0x2E ∷ 0x63 ∷ 0x2D ∷ []) ∷
+    (0x61 ∷ 0x62 ∷ 0x63 ∷ 0x2E ∷ 0x6A ∷ 0x70 ∷ 0x78 ∷ []) ∷
+    (0x61 ∷ 0x62 ∷ 0x63 ∷ 0x2E ∷ 0x6A ∷ 0x70 ∷ 0x2E ∷ []) ∷
+    (0x61 ∷ 0x62 ∷ 0x63 ∷ 0x2E ∷ 0x74 ∷ 0x6F ∷ 0x6B ∷ 0x69 ∷ []) ∷
+    (0x61 ∷ 0x62 ∷ 0x63 ∷ 0x2E ∷ 0x74 ∷ 0x6F ∷ 0x6B ∷ 0x2E ∷ []) ∷
+    -- sixteen hiragana; fourteen and a hyphen; fifteen middle dots; 64 letters; 62 and a hyphen; fifteen letters, a hiragana
+    hiraganas 16 ∷
+    (hiraganas 14 ++ 0x2D ∷ []) ∷
+    replicate 15 0x30FB ∷
+    replicate 64 0x61 ∷
+    (replicate 62 0x61 ++ 0x2D ∷ []) ∷
+    (replicate 15 0x61 ++ 0x3042 ∷ []) ∷
+    []
+
+pub tried-hopeful : (says yes ≡ replicate 18 true) × (says no ≡ replicate 17 false)
+unfolding within allOf anyOf firstOf elem same first kanji alnum hyphen asciiSet hiragana katakana signs japaneseBy japanese ranges rangeIn halfKana isHalf replaceIn replace voiced repeats halfVoiced eitherKana composed replacedFrom compose normalPlaced normalForm places period onto labels labelChar isEmpty unfit middleDot ordinary isJapanese beginsWithHyphen endsWithHyphen hyphenEdge short long bareDot labelRows jp prefectures middle today begins leftmost tries grows hopeful
+tried-hopeful = (refl, refl)

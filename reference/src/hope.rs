@@ -1,0 +1,66 @@
+//! Whether a text may yet become a name: whether the check accepts it with
+//! something, or nothing, typed after it.
+//!
+//! No continuation is put to the check. The grammar is asked what it still
+//! lets follow:
+//!
+//! - Before the first period the second reader goes on from where it stands,
+//!   by every kind of character, up to the longest label. Where one of these
+//!   ways comes to the end of a label, ".jp" may follow.
+//! - From the first period on, a name ends in one of 95 ways. The label before
+//!   must be whole, and the rest the beginning of one of them.
+//!
+//! It is enough to go on from the normal form, and in normal form. What is
+//! typed later changes it in one way only: a mark joins the last base. Base
+//! and whole are of one kind, and neither stands in an ending, so the mark
+//! changes nothing that is asked here; a mark that joins nothing is unfit for
+//! good. Nor does the limit of 256 stop a text that the grammar lets go on: no
+//! name is longer than 63 letters and ".hiroshima.jp", 76 code points; fifteen
+//! characters typed with their marks are only thirty.
+
+use crate::chars::{HYPHEN, MIDDLE_DOT, PERIOD};
+use crate::grammar::{self, second_reader, Reader};
+use crate::name::{japanese_prefectures, latin_prefectures};
+use crate::normal::normal_form;
+use crate::points;
+use std::collections::HashSet;
+use std::sync::OnceLock;
+
+const LONGEST_LABEL: usize = 63;
+
+/// One character of every kind in document 01. The reader looks at the kind
+/// alone.
+const KINDS: [u32; 10] = [0x61, 0x30, HYPHEN, 0x3042, 0x30A2, 0x4E9C, 0x3005, 0x3006, 0x30FC, MIDDLE_DOT];
+
+/// All that may follow the leftmost label.
+fn endings() -> &'static Vec<Vec<u32>> {
+    static ENDINGS: OnceLock<Vec<Vec<u32>>> = OnceLock::new();
+    ENDINGS.get_or_init(|| {
+        let prefectures = latin_prefectures().into_iter().chain(japanese_prefectures());
+        let with_prefecture = prefectures.map(|label| format!(".{label}.jp"));
+        with_prefecture.chain([".jp".to_string()]).map(|ending| points(&ending)).collect()
+    })
+}
+
+/// Whether characters can follow that make a label of what was begun.
+fn may_become_label(begun: &[u32]) -> bool {
+    let mut readers: HashSet<Reader> = grammar::read(begun).into_iter().collect();
+    for _length in begun.len()..=LONGEST_LABEL {
+        if readers.iter().any(Reader::may_end) {
+            return true;
+        }
+        let go_on = |reader: &Reader| KINDS.map(|code| reader.step(code));
+        readers = readers.iter().flat_map(go_on).flatten().collect();
+    }
+    false
+}
+
+pub fn may_become(text: &[u32]) -> bool {
+    let normal = normal_form(text);
+    let end = normal.iter().position(|code| *code == PERIOD).unwrap_or(normal.len());
+    let (label, rest) = normal.split_at(end);
+    match rest.is_empty() {
+        true => may_become_label(label),
+        false => second_reader(label) && endings().iter().any(|ending| ending.starts_with(rest)),
+    }
+}

@@ -1,0 +1,238 @@
+//! Whether a text may yet become a name, held against the check: what is said
+//! is searched for with the numbered rules, by typing on.
+
+use reference::cases::random::NameMaker;
+use reference::chars::is_japanese;
+use reference::hope::may_become;
+use reference::name::{check, japanese_prefectures, latin_prefectures};
+use reference::normal::{compositions, normal_form};
+use reference::points;
+use reference::random::Random;
+use std::collections::BTreeSet;
+
+/// One code point of every kind that may be typed.
+const KINDS: &str = "aZ7-.\u{3042}\u{304B}\u{30CF}\u{4E9C}\u{3005}\u{3006}\u{30FC}\u{30FB}\u{309B}\u{309C}\
+    \u{FF41}\u{FF0D}\u{FF0E}\u{3002}\u{FF61}\u{FF76}\u{FF65}\u{FF70}\u{FF9E}\u{FF9F}\u{3099} ";
+
+/// The kinds that labels are made of.
+const LABEL_KINDS: &str = "a-\u{304B}\u{30FC}\u{30FB}\u{309B}\u{FF8A}\u{FF9F}";
+
+fn accepted(text: &[u32]) -> bool {
+    check(text).is_ok()
+}
+
+fn with(text: &[u32], more: &[u32]) -> Vec<u32> {
+    [text, more].concat()
+}
+
+/// All that may follow a leftmost label.
+fn endings() -> Vec<Vec<u32>> {
+    let prefectures = latin_prefectures().into_iter().chain(japanese_prefectures());
+    let with_prefecture = prefectures.map(|label| format!(".{label}.jp"));
+    with_prefecture.chain([".jp".to_string()]).map(|ending| points(&ending)).collect()
+}
+
+/// Every text of at most so many of the characters.
+fn all_texts(characters: &[u32], longest: usize) -> Vec<Vec<u32>> {
+    let mut texts = vec![vec![]];
+    let mut from = 0;
+    for _ in 0..longest {
+        let last = texts[from..].to_vec();
+        from = texts.len();
+        texts.extend(last.iter().flat_map(|text| characters.iter().map(|code| with(text, &[*code]))));
+    }
+    texts
+}
+
+/// Whether a name is found by typing at most so many of the characters and
+/// then an ending of a name.
+fn found(text: &[u32], characters: &[u32], most: usize) -> bool {
+    let ended = [".jp", ".nara.jp"].iter().any(|ending| accepted(&with(text, &points(ending))));
+    let go_on = |code: &u32| found(&with(text, &[*code]), characters, most - 1);
+    ended || most > 0 && characters.iter().any(go_on)
+}
+
+/// Names as typed, damaged ones, and texts of any kinds.
+fn random_texts(count: usize, seed: u64) -> Vec<Vec<u32>> {
+    let mut random = Random::seeded(seed);
+    let maker = NameMaker::default();
+    let kinds = points(KINDS);
+    let mut texts = Vec::new();
+    for _ in 0..count {
+        let typed = maker.typed_name(&mut random);
+        texts.push(maker.edit(&typed, &mut random));
+        texts.push(typed);
+        texts.push((0..random.between(0, 9)).map(|_| *random.pick(&kinds)).collect());
+    }
+    texts
+}
+
+#[test]
+fn every_beginning_of_a_name_may_become_one() {
+    let names = random_texts(5_000, 11).into_iter().filter(|text| accepted(text));
+    let mut many = 0;
+    for name in names {
+        (0..=name.len()).for_each(|end| assert!(may_become(&name[..end]), "{name:x?} {end}"));
+        many += 1;
+    }
+    assert!(many > 3_000);
+}
+
+#[test]
+fn what_may_not_never_will() {
+    let kinds = points(KINDS);
+    let mut lost = 0;
+    for text in random_texts(2_000, 12) {
+        let hopes: Vec<bool> = (0..=text.len()).map(|end| may_become(&text[..end])).collect();
+        assert!(hopes.windows(2).all(|pair| pair[0] || !pair[1]), "{text:x?}");
+        if !hopes[text.len()] {
+            assert!(!kinds.iter().any(|code| may_become(&with(&text, &[*code]))), "{text:x?}");
+            lost += 1;
+        }
+    }
+    assert!(lost > 2_000);
+}
+
+/// With the one before this settles the answer: no name has more than 76 code
+/// points, so one that is always promised has to come.
+#[test]
+fn what_may_is_a_name_or_may_go_on() {
+    let mut next: BTreeSet<u32> = points(KINDS).into_iter().collect();
+    next.extend(endings().concat());
+    let mut kept = 0;
+    for text in random_texts(500, 13) {
+        for end in 0..=text.len() {
+            let begun = &text[..end];
+            let goes_on = || next.iter().any(|code| may_become(&with(begun, &[*code])));
+            assert_eq!(may_become(begun), accepted(begun) || goes_on(), "{begun:x?}");
+            kept += usize::from(may_become(begun));
+        }
+    }
+    assert!(kept > 5_000);
+    let longest = points(&("a".repeat(63) + ".hiroshima.jp"));
+    assert!(longest.len() == 76 && accepted(&longest));
+    assert!(!next.iter().any(|code| may_become(&with(&longest, &[*code]))));
+}
+
+#[test]
+fn short_labels_may_where_two_characters_and_an_ending_make_a_name() {
+    let kinds = points(LABEL_KINDS);
+    for text in all_texts(&kinds, 5) {
+        assert_eq!(may_become(&text), found(&text, &kinds, 2), "{text:x?}");
+    }
+    let all: Vec<u32> = points(KINDS).into_iter().filter(|code| normal_form(&[*code]) != [0x2E]).collect();
+    for text in all_texts(&all, 2) {
+        assert_eq!(may_become(&text), found(&text, &all, 2), "{text:x?}");
+    }
+}
+
+#[test]
+fn long_labels_may_where_two_characters_and_an_ending_make_a_name() {
+    let kinds = points(LABEL_KINDS);
+    let ends = all_texts(&kinds, 2);
+    for (front, unit) in [("", "a"), ("", "\u{3042}"), ("", "\u{30FB}"), ("", "\u{30FC}"), ("\u{4E9C}", "a")]
+    {
+        for length in (12..=16).chain(60..=64) {
+            let label = points(&format!("{front}{}", unit.repeat(length)));
+            for end in &ends {
+                let text = with(&label, end);
+                assert_eq!(may_become(&text), found(&text, &kinds, 2), "{text:x?}");
+            }
+        }
+    }
+}
+
+/// After a period, the check is tried with every end of every ending.
+#[test]
+fn second_and_third_labels_may_where_the_end_of_an_ending_makes_a_name() {
+    let endings = endings();
+    let ends: BTreeSet<&[u32]> =
+        endings.iter().flat_map(|ending| (0..=ending.len()).map(|from| &ending[from..])).collect();
+    let agree = |text: &[u32]| {
+        let by_check = ends.iter().any(|end| accepted(&with(text, end)));
+        assert_eq!(may_become(text), by_check, "{text:x?}");
+    };
+    for rest in all_texts(&points("jptoky.-\u{6771}\u{4EAC}"), 3) {
+        agree(&with(&points("abc."), &rest));
+    }
+    for ending in &endings {
+        for end in 1..=ending.len() {
+            let begun = with(&[0x3042], &ending[..end]);
+            assert!(may_become(&begun));
+            "aj.".chars().for_each(|next| agree(&with(&begun, &[next.into()])));
+        }
+    }
+}
+
+/// Why marks need not be looked at: they change no kind, and no ending has a
+/// base.
+#[test]
+fn a_base_and_what_a_mark_makes_of_it_are_of_one_kind() {
+    let plain = |code: &u32| is_japanese(*code) && ![0x3006, 0x30FC, 0x30FB].contains(code);
+    let in_endings: BTreeSet<u32> = endings().concat().into_iter().collect();
+    for ((base, mark), whole) in compositions() {
+        assert!(plain(base) && plain(whole) && !is_japanese(*mark));
+        assert!(!in_endings.contains(base) && !in_endings.contains(whole));
+    }
+}
+
+fn long(unit: &str, times: usize, end: &str) -> String {
+    unit.repeat(times) + end
+}
+
+#[test]
+fn texts_that_may_become_a_name() {
+    let mut texts: Vec<String> =
+        "a ab abc abc. abc.j abc.jp ABC.J abc.tok abc.tokyo abc.tokyo. abc.tokyo.j abc.tokyo.jp a- a--"
+            .split(' ')
+            .map(String::from)
+            .collect();
+    texts.extend([
+        String::new(),
+        "\u{30FB}".to_string(),
+        "\u{30FB}\u{3006}-".to_string(),
+        "\u{FF76}".to_string(),
+        "\u{FF76}\u{FF9E}\u{FF61}\u{FF4A}".to_string(),
+        "\u{30FC}.\u{5317}\u{6D77}".to_string(),
+        long("\u{30FB}", 14, ""),
+        long("\u{3042}", 15, ""),
+        long("\u{3042}", 13, "-"),
+        long("\u{3042}", 14, "\u{FF76}"),
+        long("\u{3042}", 14, "\u{FF76}\u{FF9E}"),
+        long("\u{FF76}\u{FF9E}", 15, "."),
+        long("a", 14, "\u{3042}"),
+        long("a", 63, ""),
+        long("a", 61, "-"),
+        long("a", 62, "a.kagoshima.jp"),
+    ]);
+    texts.iter().for_each(|text| assert!(may_become(&points(text)), "{text}"));
+}
+
+#[test]
+fn texts_that_are_refused_for_good() {
+    let mut texts: Vec<String> =
+        "- -a . ab. a-. abc.c- abc.jpx abc.jp. abc.jp-a abc.toki abc.tok. abc.tokyo.p abc.tokyo.jp. abc.x.jp"
+            .split(' ')
+            .map(String::from)
+            .collect();
+    texts.extend([
+        "a ".to_string(),
+        "\u{3046}\u{309B}".to_string(),
+        "\u{309B}".to_string(),
+        "\u{304B}\u{309B}\u{309B}".to_string(),
+        "\u{30FB}.".to_string(),
+        "\u{30FB}\u{30FC}\u{3002}".to_string(),
+        "\u{3042}.\u{6771}\u{90FD}".to_string(),
+        long("\u{3042}", 16, ""),
+        long("\u{3042}", 14, "-"),
+        long("\u{3042}", 15, "\u{FF76}"),
+        long("\u{30FB}", 15, ""),
+        long("\u{FF76}\u{FF9E}", 15, "-"),
+        long("a", 64, ""),
+        long("a", 62, "-"),
+        long("a", 15, "\u{3042}"),
+        long("a", 257, ""),
+        "abc.jp".to_string() + &long("a", 251, ""),
+    ]);
+    texts.iter().for_each(|text| assert!(!may_become(&points(text)), "{text}"));
+}
