@@ -1,8 +1,8 @@
 -- Whether the live check still has hope after any code points is what the rules say of a text: the argument over any rules (Typing), at
 -- `hopeful`. So it says yes exactly where some continuation of what was typed is accepted by the nightly rules.
 -- Assumes nothing.
-use mathlib.Core.Path.{_≡_, sym, ap, _∙_}
-use mathlib.Core.Bool.{Bool, true, false}
+use mathlib.Core.Path.{_≡_, sym, _∙_}
+use mathlib.Core.Bool.{true, false}
 use mathlib.Core.List.{List, _++_}
 use mathlib.Core.Logic.{_↔_}
 use Prim.Native.Nat.{ℕ}

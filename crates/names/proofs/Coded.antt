@@ -10,7 +10,7 @@ use native.Mathlib.Omega.{arith}
 use lib.Dec.{eqb, leb, ltb}
 use lib.ListN.{length}
 use borrow.Author.Tests.{eqb-true, eqb-false, ltb-false, le-leb, lt-ltb, le-ltb, not-true}
-use Rattle.lists.specs.Tests.{pick, within, allOf, anyOf}
+use Rattle.lists.specs.Tests.{within, allOf, anyOf}
 use Rattle.lists.specs.Front.{written}
 use Rattle.lists.specs.Rows.{Row, row, Answer, accepted, first, given}
 use Rattle.lists.proofs.Laws.{or-left, or-right, inside, outside, in-range, all-weaker, all-none, any-weaker, any-some}
@@ -22,7 +22,7 @@ use Rattle.punycode.specs.Punycode as Puny
 use Rattle.punycode.specs.Calls.{coderNumber}
 use Rattle.punycode.proofs.Bound.{near, encodable-short}
 use Rattle.rules.specs.Labels.{labels}
-use Rattle.rules.specs.Permits.{Permits, labelChar, middle}
+use Rattle.rules.specs.Permits.{Permits, labelChar}
 use Rattle.rules.specs.Rules.{isJapanese, long, jp, labelRows, nameRows, textRows, verdict, rules}
 use Rattle.rules.specs.Editions.{today}
 use Rattle.rules.proofs.Sound.{ascii-range}

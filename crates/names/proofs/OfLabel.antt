@@ -13,7 +13,7 @@ use Rattle.lists.specs.Rows.{Row, row, Answer, first}
 use Rattle.lists.proofs.Laws.{or-left, or-right, in-range, all-none, any-weaker}
 use Rattle.lists.proofs.Tables.{clear, clear-before, hit, passed-over, refusing, accepted-clear}
 use Rattle.characters.specs.Characters.{asciiSet, hyphen, japaneseWith}
-use Rattle.characters.proofs.Bounds.{with-bounds, with-below}
+use Rattle.characters.proofs.Bounds.{with-below}
 use Rattle.rules.specs.Labels.{period}
 use Rattle.rules.specs.Permits.{Permits, labelChar}
 use Rattle.rules.specs.Rules.{unfit, middleDot, ordinary, isJapanese, beginsWithHyphen, endsWithHyphen, hyphenEdge, short, long, bareDot, labelRows}
@@ -21,6 +21,7 @@ use Rattle.rules.specs.Editions.{todayWith}
 use Rattle.rules.proofs.Views.{or-false, and-false, all-but}
 use Rattle.rules.proofs.Sound.{ascii-range}
 use Rattle.rules.proofs.Steps.{edge-at, refused-before}
+use Rattle.rules.proofs.Today.{lent-stretch}
 use Rattle.names.specs.Steps.{labelNumber, edgeRows, edgeNumber, octet, wide}
 
 -- ---- one of two tests
@@ -90,8 +91,8 @@ octet-narrow c e = let h = ltb-true c 0x100 e in le-ltb 0xFF c (omega arith)
 
 module _ (table : List ℕ) where
   japanese-wide : (c : ℕ) → todayWith table .japanese c ≡ true → wide c ≡ true
-  unfolding todayWith wide
-  japanese-wide c e = let r = in-range 0x3003 0x9FA0 c (with-bounds table c e) in lt-ltb 0xFF c (omega arith)
+  unfolding wide
+  japanese-wide c e = let r = in-range 0x3003 0x9FA0 c (lent-stretch table c e) in lt-ltb 0xFF c (omega arith)
 
   module _ (l : List ℕ) {b : Bool} (e : b ≡ anyOf wide l) where
     pub wide-is : (isJapanese (todayWith table) l ≡ false → allOf octet l ≡ true) → b ≡ isJapanese (todayWith table) l

@@ -21,7 +21,7 @@ use Rattle.punycode.proofs.Clipped.{adapt-next, adapt-end}
 use Rattle.punycode.proofs.Keys.{from-count}
 use Rattle.punycode.proofs.Reading.{split, threshold-bounds}
 use Rattle.punycode.proofs.Rungs.{encodable-basic}
-use Rattle.punycode.proofs.Runs.{Goes, keys-go}
+use Rattle.punycode.proofs.Runs.{keys-go}
 
 -- ---- the digits of an integer
 

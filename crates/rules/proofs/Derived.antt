@@ -21,7 +21,7 @@ use Rattle.rules.specs.Rules.{unfit, isJapanese, long, labelRows, jp, na
 use Rattle.rules.specs.Grammar.{label, Derives, general, prefecture, listed}
 use Rattle.rules.specs.declared.Class.{Class}
 use Rattle.rules.proofs.Cuts.{labels-cut}
-use Rattle.rules.proofs.Sound.{Sound, low, label-sound, sound-label}
+use Rattle.rules.proofs.Sound.{low, label-sound, sound-label}
 
 -- ---- one table after another
 

@@ -39,14 +39,12 @@ yes =
     (0x61 ∷ 0x62 ∷ 0x63 ∷ 0x2E ∷ 0x74 ∷ 0x6F ∷ 0x6B ∷ []) ∷
     (0x61 ∷ 0x62 ∷ 0x63 ∷ 0x2E ∷ 0x74 ∷ 0x6F ∷ 0x6B ∷ 0x79 ∷ 0x6F ∷ []) ∷
     (0x61 ∷ 0x62 ∷ 0x63 ∷ 0x2E ∷ 0x74 ∷ 0x6F ∷ 0x6B ∷ 0x79 ∷ 0x6F ∷ 0x2E ∷ 0x6A ∷ []) ∷
-    -- a- ; the middle dot alone; fourteen of them; fifteen hiragana; thirteen and a hyphen; 63 letters; 61 and a hyphen
+    -- a- ; the middle dot alone; fourteen of them; fifteen hiragana; thirteen and a hyphen
     (0x61 ∷ 0x2D ∷ []) ∷
     (0x30FB ∷ []) ∷
     replicate 14 0x30FB ∷
     hiraganas 15 ∷
     (hiraganas 13 ++ 0x2D ∷ []) ∷
-    replicate 63 0x61 ∷
-    (replicate 61 0x61 ++ 0x2D ∷ []) ∷
     -- sixteen code points, fifteen characters
     (hiraganas 14 ++ 0xFF76 ∷ 0xFF9E ∷ []) ∷
     []
@@ -66,15 +64,13 @@ no =
     (0x61 ∷ 0x62 ∷ 0x63 ∷ 0x2E ∷ 0x6A ∷ 0x70 ∷ 0x2E ∷ []) ∷
     (0x61 ∷ 0x62 ∷ 0x63 ∷ 0x2E ∷ 0x74 ∷ 0x6F ∷ 0x6B ∷ 0x69 ∷ []) ∷
     (0x61 ∷ 0x62 ∷ 0x63 ∷ 0x2E ∷ 0x74 ∷ 0x6F ∷ 0x6B ∷ 0x2E ∷ []) ∷
-    -- sixteen hiragana; fourteen and a hyphen; fifteen middle dots; 64 letters; 62 and a hyphen; fifteen letters, a hiragana
+    -- sixteen hiragana; fourteen and a hyphen; fifteen middle dots; fifteen letters, a hiragana
     hiraganas 16 ∷
     (hiraganas 14 ++ 0x2D ∷ []) ∷
     replicate 15 0x30FB ∷
-    replicate 64 0x61 ∷
-    (replicate 62 0x61 ++ 0x2D ∷ []) ∷
     (replicate 15 0x61 ++ 0x3042 ∷ []) ∷
     []
 
-pub tried-hopeful : (says yes ≡ replicate 18 true) × (says no ≡ replicate 17 false)
+pub tried-hopeful : (says yes ≡ replicate 16 true) × (says no ≡ replicate 15 false)
 unfolding within allOf anyOf firstOf elem same first kanji alnum hyphen asciiSet hiragana katakana signs japaneseBy japanese ranges rangeIn halfKana isHalf replaceIn replace voiced repeats halfVoiced eitherKana composed replacedFrom compose normalPlaced normalForm places period onto labels labelChar isEmpty unfit middleDot ordinary isJapanese beginsWithHyphen endsWithHyphen hyphenEdge short long bareDot labelRows jp prefectures middle today begins leftmost tries grows hopeful
 tried-hopeful = (refl, refl)

@@ -8,10 +8,6 @@ use Rattle.names.proofs.Hoping.{too-long, with-more}
 use borrow.Author.Needs.{needs}
 use Rattle.names.proofs.hopes.leftmost_plus.Statement.{statement}
 use Rattle.names.proofs.hopes.leftmost_plus.Tie as tie
-use Rattle.names.proofs.hopes.leftmost_plus.Reads as reads
-use Rattle.names.proofs.hopes.leftmost_plus.Lts as lts
-use Rattle.lists.proofs.copy.Reads as copy-reads
-use Rattle.names.proofs.hopes.is_leftmost.Reads as is-leftmost-reads
 
 returns : tie.Need-returns
 returns c = too-long _ (c .before .before .before .args .label .now) (c .before .before .before .args .c) (c .if1 .taken)

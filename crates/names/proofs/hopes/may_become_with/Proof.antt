@@ -9,11 +9,6 @@ use Rattle.names.proofs.Hoping.{nothing-yet, no-hope, unfit-no-hope, fi
 use borrow.Author.Needs.{needs}
 use Rattle.names.proofs.hopes.may_become_with.Statement.{statement}
 use Rattle.names.proofs.hopes.may_become_with.Tie as tie
-use Rattle.names.proofs.hopes.may_become_with.Reads as reads
-use Rattle.names.proofs.hopes.may_become_with.Lts as lts
-use Rattle.names.proofs.hopes.form_grows.Reads as form-grows-reads
-use Rattle.names.proofs.labels.first_unfit.Reads as first-unfit-reads
-use Rattle.normal.proofs.normal_form.Reads as normal-form-reads
 
 returns : tie.Need-returns
 returns c = nothing-yet _ _ (c .if1 .taken)
