@@ -30,6 +30,7 @@ fn first(code: u32) -> Vec<String> {
         probe_line('C', 256, &text),
         probe_line('A', 192, &text),
         probe_line('L', 0, &text),
+        probe_line('M', 0, &text),
         probe_line('S', 0, &[code]),
         probe_line('E', 63, &[code]),
     ]
@@ -43,6 +44,7 @@ fn second(code: u32) -> Vec<String> {
             probe_line('N', 256, &text),
             probe_line('C', 256, &text),
             probe_line('L', 0, &[base, code]),
+            probe_line('M', 0, &[base, code]),
             probe_line('S', 0, &[base, code]),
             probe_line('E', 63, &[base, code]),
         ]
@@ -63,7 +65,7 @@ fn above() -> impl Iterator<Item = u32> {
 fn marked(code: u32) -> Vec<String> {
     let with = |mark: u32| {
         let text = with_jp(&[code, mark]);
-        [probe_line('N', 256, &text), probe_line('L', 0, &text)]
+        [probe_line('N', 256, &text), probe_line('L', 0, &text), probe_line('M', 0, &text)]
     };
     MARKS.into_iter().flat_map(with).collect()
 }
@@ -78,7 +80,7 @@ fn random() -> impl Iterator<Item = String> {
         [typed, damaged]
             .iter()
             .flat_map(|text| {
-                [('C', 256), ('A', 192), ('L', 0)].map(|(call, lent)| probe_line(call, lent, text))
+                [('C', 256), ('A', 192), ('L', 0), ('M', 0)].map(|(call, lent)| probe_line(call, lent, text))
             })
             .collect::<Vec<_>>()
     })

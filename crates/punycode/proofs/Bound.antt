@@ -274,11 +274,12 @@ from-good (suc f) n l h few e = rw (all-append, at-good n 0 l h (omega arith) e,
 -- ---- the loop over the keys
 
 module _ (b : ℕ) where
-  grows : (xs : List ℕ) (n i : ℕ) (s : Enc) → Climbs n i (s .h) xs → allOf good xs ≡ true → 0x3003 ≤ n → n ≤ 0x9FA0 → b < s .h → s .h + length xs ≤ 15
+  -- what is written for the keys to come costs at most the potential, and what the way still to go pays
+  run-costs : (xs : List ℕ) (n i : ℕ) (s : Enc) → Climbs n i (s .h) xs → allOf good xs ≡ true → 0x3003 ≤ n → n ≤ 0x9FA0 → b < s .h → s .h + length xs ≤ 15
       → s .bias ≤ top (s .h) → 12000 * length (run b xs n i s) ≤ 12000 * length (s .out) + pot (s .h) (s .bias) + (0x9FA0 - n)
   unfolding run emit due allOf
-  grows [] n i s w g lo hi more few t = omega arith
-  grows (x ∷ xs) n i s (step p q r w) g lo hi more few t =
+  run-costs [] n i s w g lo hi more few t = omega arith
+  run-costs (x ∷ xs) n i s (step p q r w) g lo hi more few t =
       let v = both (good x) (allOf good xs) g in
       let parts = good-parts x (v .0) in
       let m = x / 64 in
@@ -289,15 +290,15 @@ module _ (b : ℕ) where
       let pays = step-pays (s .h) (s .bias) d (m - n) (omega arith) (omega arith) t (omega arith) way in
       let t′ = adapt-top d (s .h + 1) (omega arith) (omega arith) (omega arith) in
       let ih : 12000 * length (run b (x ∷ xs) n i s) ≤ 12000 * length (s .out ++ varint (suc d) (s .bias) 36 d) + pot (s .h + 1) (adapt d (s .h + 1) (eqb (s .h) b)) + (0x9FA0 - m) =
-      grows xs m (x % 64 + 1) (emit b (due d s)) w (v .1) (parts .0) (parts .1) (omega arith) (omega arith) (rw not-first t′) in
+      run-costs xs m (x % 64 + 1) (emit b (due d s)) w (v .1) (parts .0) (parts .1) (omega arith) (omega arith) (rw not-first t′) in
       let same : pot (s .h + 1) (adapt d (s .h + 1) (eqb (s .h) b)) ≡ pot (s .h + 1) (adapt d (s .h + 1) false) = rw not-first in
       omega (arith, length-append (s .out) (varint (suc d) (s .bias) 36 d), parts .1)
 
   -- the whole, from 80 on
-  begins : (x : ℕ) (xs : List ℕ) → Climbs 0x80 0 b (x ∷ xs) → allOf good (x ∷ xs) ≡ true → b + length (x ∷ xs) ≤ 15
+  whole-costs : (x : ℕ) (xs : List ℕ) → Climbs 0x80 0 b (x ∷ xs) → allOf good (x ∷ xs) ≡ true → b + length (x ∷ xs) ≤ 15
       → 12000 * length (run b (x ∷ xs) 0x80 0 (first b)) ≤ room b + 40736
   unfolding run emit due first allOf
-  begins x xs (step p q r w) g few =
+  whole-costs x xs (step p q r w) g few =
       let v = both (good x) (allOf good xs) g in
       let parts = good-parts x (v .0) in
       let m = x / 64 in
@@ -307,7 +308,7 @@ module _ (b : ℕ) where
       let way : d ≤ (m - 0x80) * (b + 1) + 14 = omega (arith, parts .2) in
       let pays = start-pays b d (m - 0x80) (omega arith) (omega arith) (omega (arith, parts .0)) way in
       let ih : 12000 * length (run b (x ∷ xs) 0x80 0 (first b)) ≤ 12000 * length (varint (suc d) 72 36 d) + pot (b + 1) (adapt d (b + 1) (eqb b b)) + (0x9FA0 - m) =
-      grows xs m (x % 64 + 1) (emit b (due d (first b))) w (v .1) (parts .0) (parts .1) (omega arith) (omega arith) (rw is-first (adapt-first d (b + 1) (omega arith))) in
+      run-costs xs m (x % 64 + 1) (emit b (due d (first b))) w (v .1) (parts .0) (parts .1) (omega arith) (omega arith) (rw is-first (adapt-first d (b + 1) (omega arith))) in
       omega (arith, ih, pot-low (b + 1) (adapt d (b + 1) (eqb b b)) (omega arith), parts .0, parts .1)
 
 -- ---- the theorem
@@ -342,7 +343,7 @@ ace-short l few each more =
     cost : (xs : List ℕ) → Climbs 0x80 0 (length (below 0x80 l)) xs → allOf good xs ≡ true → length (below 0x80 l) + length xs ≡ length l
         → 12000 * length (run (length (below 0x80 l)) xs 0x80 0 (first (length (below 0x80 l)))) ≤ room (length (below 0x80 l)) + 40736
     cost [] w g e = absurd (omega arith)
-    cost (x ∷ xs) w g e = begins (length (below 0x80 l)) x xs w g (omega arith)
+    cost (x ∷ xs) w g e = whole-costs (length (below 0x80 l)) x xs w g (omega arith)
 
 -- so for an encodable label
 pub encodable-short : (l : List ℕ) → encodable l ≡ true → length l ≤ 15 → allOf near l ≡ true → length (ace l) ≤ 63
