@@ -93,8 +93,9 @@ fn what_may_not_never_will() {
     assert!(lost > 2_000);
 }
 
-/// With the one before this settles the answer: no name has more than 76 code
-/// points, so one that is always promised has to come.
+/// Held with the one before of every text, this would settle the answer: no name
+/// has more than 76 code points, so one that is always promised has to come. It
+/// is tried on samples.
 #[test]
 fn what_may_is_a_name_or_may_go_on() {
     let mut next: BTreeSet<u32> = points(KINDS).into_iter().collect();

@@ -1,5 +1,4 @@
--- Every Japanese character stands from 3003, the least that any edition has, to 9FA0: the kana and the signs do, and so do the kanji, of
--- any lent table too.
+-- Every Japanese character stands from 3003 to 9FA0: the kana and the signs do, and so do the kanji, of any lent table too.
 -- Assumes nothing.
 use mathlib.Core.Path.{_≡_, refl}
 use mathlib.Core.Bool.{Bool, true, false, _||_}
@@ -7,7 +6,7 @@ use mathlib.Core.List.{List}
 use Prim.Native.Nat.{ℕ, _≤_, _<_}
 use native.Mathlib.Omega.{arith}
 use Rattle.lists.specs.Tests.{within, allOf, elem}
-use Rattle.lists.proofs.Laws.{both, inside, in-range, in-table}
+use Rattle.lists.proofs.Laws.{both, refuted, inside, in-range, in-table}
 use Rattle.characters.specs.Characters.{hiragana, katakana, signs, japaneseBy, kanjiWith, japaneseWith}
 
 -- a range that lies within another
@@ -31,11 +30,7 @@ module _ (isKanji : ℕ → Bool) (c : ℕ) (bound : isKanji c ≡ true → with
       go false p false q false r e = bound e
 
   pub below : c < 0x3003 → japaneseBy isKanji c ≡ false
-  below h = go (japaneseBy isKanji c) refl
-    where
-      go : (b : Bool) → japaneseBy isKanji c ≡ b → b ≡ false
-      go true p = absurd (let r = in-range 0x3003 0x9FA0 c (bounds p) in omega arith)
-      go false p = refl
+  below h = refuted (japaneseBy isKanji c) (λ p. let r = in-range 0x3003 0x9FA0 c (bounds p) in omega arith)
 
 module _ (table : List ℕ) (c : ℕ) where
   lent-bound : kanjiWith table c ≡ true → within 0x3003 0x9FA0 c ≡ true

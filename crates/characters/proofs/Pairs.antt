@@ -9,7 +9,7 @@ use native.Mathlib.Omega.{arith}
 use lib.Dec.{eqb, leb, ltb}
 use borrow.Author.Tests.{eqb-true, leb-true, lt-ltb, le-ltb, not-true}
 use Rattle.lists.specs.Tests.{pick, within, allOf, anyOf, elem}
-use Rattle.lists.proofs.Laws.{both, neither, clash, outside, in-table, in-range, lt-or-le}
+use Rattle.lists.proofs.Laws.{both, neither, either, clash, outside, in-table, in-range, lt-or-le}
 use Rattle.characters.specs.Replace.{ranges, rangeIn, isHalf, replaceIn, replace}
 use Rattle.characters.specs.Compose.{voiced, repeats, halfVoiced, eitherKana, composed}
 
@@ -162,27 +162,18 @@ marks-stay = (refl, refl)
 -- a test that every base passes, by computation
 pub of-base : (f : ℕ → Bool) (b m : ℕ) → moved f 0 voiced ≡ true → allOf f repeats ≡ true → f 0x30A6 ≡ true → moved f 0 halfVoiced ≡ true
     → (composed b m ≡ 0 → ⊥) → f b ≡ true
-unfolding composed
-of-base f b m v r u h n = mark (eqb m 0x309B) (eqb m 0x309C) n
+of-base f b m v r u h n = go (eitherKana voiced b) refl (elem b repeats) refl (eqb b 0x30A6) refl (eitherKana halfVoiced b) refl
   where
     back : f (b + 0) ≡ true → f b ≡ true
     back e = let z : b + 0 ≡ b = omega arith in rw z at e
 
-    voice : (x : Bool) → eitherKana voiced b ≡ x → (y : Bool) → elem b repeats ≡ y → (t : Bool) → eqb b 0x30A6 ≡ t
-        → (pick (x || y) (b + 1) (pick t 0x30F4 0) ≡ 0 → ⊥) → f b ≡ true
-    voice true p y q t s n = back (in-either f 0 voiced b v p)
-    voice false p true q t s n = in-table f b repeats r q
-    voice false p false q true s n = rw (eqb-true b 0x30A6 s) u
-    voice false p false q false s n = absurd (n refl)
-
-    half : (x : Bool) → eitherKana halfVoiced b ≡ x → (pick x (b + 2) 0 ≡ 0 → ⊥) → f b ≡ true
-    half true p n = back (in-either f 0 halfVoiced b h p)
-    half false p n = absurd (n refl)
-
-    mark : (s t : Bool) → (pick s (pick (eitherKana voiced b || elem b repeats) (b + 1) (pick (eqb b 0x30A6) 0x30F4 0)) (pick t (pick (eitherKana halfVoiced b) (b + 2) 0) 0) ≡ 0 → ⊥) → f b ≡ true
-    mark true t n = voice (eitherKana voiced b) refl (elem b repeats) refl (eqb b 0x30A6) refl n
-    mark false true n = half (eitherKana halfVoiced b) refl n
-    mark false false n = absurd (n refl)
+    go : (x : Bool) → eitherKana voiced b ≡ x → (y : Bool) → elem b repeats ≡ y → (s : Bool) → eqb b 0x30A6 ≡ s → (t : Bool) → eitherKana halfVoiced b ≡ t
+        → f b ≡ true
+    go true p y q s e t w = back (in-either f 0 voiced b v p)
+    go false p true q s e t w = in-table f b repeats r q
+    go false p false q true e t w = rw (eqb-true b 0x30A6 e) u
+    go false p false q false e true w = back (in-either f 0 halfVoiced b h w)
+    go false p false q false e false w = absurd (n (baseless b m (rw (p, q, e, w))))
 
 -- what is composed stands with the kana, from 3041 to 30FE
 composed-test : (b m : ℕ) → eqb (composed b m) 0 || within 0x3041 0x30FE (composed b m) ≡ true
@@ -190,8 +181,4 @@ unfolding voiced repeats halfVoiced allOf within
 composed-test b m = of-composed (λ (v : ℕ). eqb v 0 || within 0x3041 0x30FE v) b m refl refl refl refl refl
 
 pub composed-kana : (b m : ℕ) → (composed b m ≡ 0 → ⊥) → within 0x3041 0x30FE (composed b m) ≡ true
-composed-kana b m n = go (eqb (composed b m) 0) refl (composed-test b m)
-  where
-    go : (t : Bool) → eqb (composed b m) 0 ≡ t → t || within 0x3041 0x30FE (composed b m) ≡ true → within 0x3041 0x30FE (composed b m) ≡ true
-    go true p e = absurd (n (eqb-true (composed b m) 0 p))
-    go false p e = e
+composed-kana b m n = either (eqb (composed b m) 0) _ (composed-test b m) (λ p. absurd (n (eqb-true (composed b m) 0 p))) (λ p. p)

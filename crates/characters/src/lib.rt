@@ -95,7 +95,7 @@ pub fn is_kana_or_kanji(kanji: &[u32], c: u32) -> bool
     is_kanji(kanji, c)
 }
 
-// A Japanese character, by a lent table of kanji? Below 3003 no edition has one; the signs come last, being the rarest.
+// A Japanese character, by a lent table of kanji? Below 3003 there is none; the signs come last, being the rarest.
 pub fn is_japanese(kanji: &[u32], c: u32) -> bool
     ensures { λ r. ⌜ r ≡ japaneseWith (now (kanji .entry)) c ⌝ }
 {

@@ -13,7 +13,7 @@ use borrow.Author.Tests.{eqb-true, eqb-false, ltb-false, le-leb, lt-ltb, le-ltb,
 use Rattle.lists.specs.Tests.{within, allOf, anyOf}
 use Rattle.lists.specs.Front.{written}
 use Rattle.lists.specs.Rows.{Row, row, Answer, accepted, first, given}
-use Rattle.lists.proofs.Laws.{or-left, or-right, inside, outside, in-range, all-weaker, all-none, any-weaker, any-some}
+use Rattle.lists.proofs.Laws.{or-left, or-right, either, inside, outside, in-range, all-weaker, all-none, any-weaker, any-some}
 use Rattle.lists.proofs.Tables.{clear, clear-before, hit, passed-over, numbered}
 use Rattle.characters.specs.Characters.{alnum, hyphen, asciiSet}
 use Rattle.normal.specs.Normal.{normalForm}
@@ -23,17 +23,16 @@ use Rattle.punycode.specs.Calls.{coderNumber}
 use Rattle.punycode.proofs.Bound.{near, encodable-short}
 use Rattle.rules.specs.Labels.{labels}
 use Rattle.rules.specs.Permits.{Permits, labelChar}
-use Rattle.rules.specs.Rules.{isJapanese, long, jp, labelRows, nameRows, textRows, verdict, rules}
+use Rattle.rules.specs.Rules.{isJapanese, jp, labelRows, nameRows, textRows, verdict, rules}
 use Rattle.rules.specs.Editions.{today}
 use Rattle.rules.proofs.Sound.{ascii-range}
-use Rattle.rules.proofs.Derived.{middle-length}
+use Rattle.rules.proofs.Derived.{left-size, middle-length}
 use Rattle.rules.proofs.Steps.{refused-before}
 use Rattle.rules.proofs.Today.{today-laws}
 use Rattle.names.specs.Calls.{checked, uncoded, asciiForm, asciiRows, AsciiForms}
 use Rattle.names.specs.declared.Checked.{Checked}
 use Rattle.names.proofs.Answering.{cleared}
 use Rattle.names.proofs.Enough.{each-label}
-use Rattle.names.proofs.OfLabel.{either}
 
 ascii-allowed : (c : ℕ) → asciiSet c ≡ true → ldh c ≡ true
 unfolding asciiSet alnum hyphen ldh Puny.alnum
@@ -87,10 +86,6 @@ module _ (P : Permits) (stretch : (c : ℕ) → P .japanese c ≡ true → withi
       go false p = rw p
       go true p = rw (p, label-coded l a p (k p))
 
-  left-size : (l : List ℕ) → long P l ≡ false → isJapanese P l ≡ true → length l ≤ 15
-  unfolding long
-  left-size l e p = ltb-false 15 (length l) (rw p at e)
-
   -- ---- a name
 
   jp-chars : allOf (labelChar P) jp ≡ true
@@ -102,7 +97,7 @@ module _ (P : Permits) (stretch : (c : ℕ) → P .japanese c ≡ true → withi
     unfolding rules verdict
     no-14 =
         all-none (λ l. not (uncoded P l)) (uncoded P) (λ l p. not-true (uncoded P l) p) (labels (normalForm text))
-        (each-label P (λ l. not (uncoded P l)) (λ l a k. label-fine l a (left-size l k)) (λ l a m. label-fine l a (λ q. middle-length P short l m))
+        (each-label P (λ l. not (uncoded P l)) (λ l a k. label-fine l a (λ q. rw q at (left-size P l k))) (λ l a m. label-fine l a (λ q. middle-length P short l m))
         (label-fine jp jp-chars (λ q. unfold jp in omega arith)) text (cleared P text e) .0)
 
     -- the call for the ASCII form answers 0 where the buffer has room

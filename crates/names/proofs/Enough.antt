@@ -9,7 +9,7 @@ use native.Mathlib.Omega.{arith}
 use lib.Dec.{leb}
 use lib.ListN.{length, take, drop, length-append}
 use lib.Seq.{take-at, take-all}
-use borrow.Author.Tests.{ne-eqb, le-leb, ltb-false, not-true, not-false}
+use borrow.Author.Tests.{ne-eqb, le-leb, not-true, not-false}
 use Rattle.lists.specs.Tests.{allOf, anyOf, same}
 use Rattle.lists.specs.Front.{written}
 use Rattle.lists.proofs.Laws.{both, or-right, clash, same-is}
@@ -21,7 +21,7 @@ use Rattle.rules.specs.Rules.{isJapanese, long, jp, labelRows, nameRows, textRo
 use Rattle.rules.specs.Editions.{todayWith}
 use Rattle.rules.proofs.Views.{and-false}
 use Rattle.rules.proofs.Cuts.{labels-fit}
-use Rattle.rules.proofs.Derived.{middle-length}
+use Rattle.rules.proofs.Derived.{left-size, middle-length}
 use Rattle.rules.proofs.Today.{lent-short}
 use Rattle.names.specs.Calls.{asciiForm, uncoded, AsciiForms}
 use Rattle.names.specs.Steps.{octet, writable, Writable, Tries, refusedCall, Judges}
@@ -68,10 +68,6 @@ label-writable P l a k = go (isJapanese P l) refl
     go true p = rw p
     go false p = rw (p, le-leb (length l) 63 (k p), ascii-octets P l a p)
 
-left-size : (P : Permits) (l : List ℕ) → long P l ≡ false → isJapanese P l ≡ false → length l ≤ 63
-unfolding long
-left-size P l e p = ltb-false 63 (length l) (rw p at e)
-
 jp-writable : (P : Permits) → writable P jp ≡ true
 unfolding writable jp allOf octet
 jp-writable P = or-right (isJapanese P (0x6A ∷ 0x70 ∷ [])) true refl
@@ -79,7 +75,7 @@ jp-writable P = or-right (isJapanese P (0x6A ∷ 0x70 ∷ [])) true refl
 pub accepted-writable : (table text : List ℕ) → Clear (textRows (todayWith table) text) → Writable (todayWith table) (normalForm text) 192
 accepted-writable table text c =
     let P = todayWith table in
-    let w = each-label P (writable P) (λ l a k. label-writable P l a (left-size P l k))
+    let w = each-label P (writable P) (λ l a k. label-writable P l a (λ q. rw q at (left-size P l k)))
     (λ l a m. label-writable P l a (λ q. let h = middle-length P (lent-short table) l m in omega arith)) (jp-writable P) text c in
     record { fit = w .0; few = omega (arith, w .1) }
 

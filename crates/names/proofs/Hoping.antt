@@ -12,7 +12,7 @@ use Rattle.lists.specs.Tests.{within, allOf, anyOf, firstOf, same}
 use Rattle.lists.specs.Front.{written}
 use Rattle.lists.specs.Rows.{first}
 use Rattle.lists.proofs.Fronts.{front}
-use Rattle.lists.proofs.Laws.{both, or-left, or-right, all-append}
+use Rattle.lists.proofs.Laws.{both, or-left, or-right, either, refuted, all-append}
 use Rattle.lists.proofs.Scan.{found}
 use Rattle.characters.specs.Characters.{hyphen, asciiSet, hiragana, japaneseBy, japaneseWith}
 use Rattle.normal.specs.Normal.{replacedFrom, compose, normalPlaced, normalForm}
@@ -28,7 +28,6 @@ use Rattle.rules.proofs.Cuts.{labelled, labels-fit}
 use Rattle.rules.proofs.Views.{or-false}
 use Rattle.rules.proofs.Hopeless.{leftmost-length, begins-length, past-hope}
 use Rattle.rules.proofs.Today.{lent-short}
-use Rattle.names.proofs.OfLabel.{either}
 use Rattle.names.proofs.OfName.{some-label}
 use Rattle.names.proofs.Judging.{Way, no-text, over, whole, way, formed, form-is, first-is, none-unfit}
 
@@ -36,11 +35,7 @@ use Rattle.names.proofs.Judging.{Way, no-text, over, whole, way, formed
 
 module _ (l w : List ℕ) where
   pub begins-none : length w < length l → false ≡ begins l w
-  begins-none h = go (begins l w) refl
-    where
-      go : (b : Bool) → begins l w ≡ b → false ≡ b
-      go true e = absurd (omega (arith, begins-length l w e))
-      go false e = refl
+  begins-none h = sym (refuted (begins l w) (λ e. omega (arith, begins-length l w e)))
 
   pub begins-part : {b : Bool} → b ≡ same l (take (length l - 0) (drop 0 w)) → b ≡ begins l w
   unfolding begins
@@ -50,11 +45,7 @@ module _ (l w : List ℕ) where
 
 module _ (P : Permits) (l : List ℕ) (c : ℕ) where
   pub too-long : 63 < length l → false ≡ leftmost P (l ++ c ∷ [])
-  too-long h = go (leftmost P (l ++ c ∷ [])) refl
-    where
-      go : (b : Bool) → leftmost P (l ++ c ∷ []) ≡ b → false ≡ b
-      go true e = absurd (omega (arith, leftmost-length P (l ++ c ∷ []) e, length-append l (c ∷ [])))
-      go false e = refl
+  too-long h = sym (refuted (leftmost P (l ++ c ∷ [])) (λ e. omega (arith, leftmost-length P (l ++ c ∷ []) e, length-append l (c ∷ []))))
 
 module _ (l before out : List ℕ) (c : ℕ) (e : out ≡ written (take (length before) l) before) (n : length before ≡ 64) (h : length l ≤ 63) where
   copied : take (length l) out ≡ l

@@ -24,12 +24,6 @@ use Rattle.rules.proofs.Steps.{edge-at, refused-before}
 use Rattle.rules.proofs.Today.{lent-stretch}
 use Rattle.names.specs.Steps.{labelNumber, edgeRows, edgeNumber, octet, wide}
 
--- ---- one of two tests
-
-pub either : {A : Type 0} (a b : Bool) → a || b ≡ true → (a ≡ true → A) → (b ≡ true → A) → A
-either true b e f g = f refl
-either false b e f g = g e
-
 -- ---- one character
 
 module _ (table : List ℕ) (c : ℕ) where

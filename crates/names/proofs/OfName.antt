@@ -88,7 +88,7 @@ module _ (t : List ℕ) (a : ℕ) (sa : a ≡ 0 + firstOf period (drop 0 t)) whe
   one-is k = last-from t 0 a (omega arith) sa k
 
   module _ (ka : a < length t) where
-    pub first-is : labels t ≡ take (a - 0) (drop 0 t) ∷ labels (drop (a + 1) t)
+    first-is : labels t ≡ take (a - 0) (drop 0 t) ∷ labels (drop (a + 1) t)
     first-is = first-from t 0 a (omega arith) sa ka
 
     module _ (b : ℕ) (sb : b ≡ a + 1 + firstOf period (drop (a + 1) t)) where

@@ -13,7 +13,7 @@ use lib.Seq.{drop-cons}
 use borrow.Author.Tests.{eq-eqb, ne-eqb, not-true, not-false}
 use Rattle.lists.specs.Tests.{within, allOf, anyOf, same}
 use Rattle.lists.specs.Front.{written}
-use Rattle.lists.proofs.Laws.{both, or-left, or-right, clash, inside, outside, in-range, all-append, all-weaker, all-none, same-refl, same-is}
+use Rattle.lists.proofs.Laws.{either, both, or-left, or-right, clash, inside, outside, in-range, all-append, all-weaker, all-none, same-refl, same-is}
 use Rattle.lists.proofs.Pieces.{then}
 use Rattle.lists.proofs.Tables.{Clear}
 use Rattle.characters.specs.Characters.{alnum, hyphen, asciiSet, hiragana, katakana, kanjiWith, kanaOrKanjiWith}
@@ -38,7 +38,7 @@ use Rattle.names.specs.declared.ascii.Put.{Put}
 use Rattle.names.proofs.Answering.{cleared, ascii-refused, ascii-uncoded, ascii-accepted}
 use Rattle.names.proofs.Enough.{accepted-writable}
 use Rattle.names.proofs.Joining.{put-jp, label-size}
-use Rattle.names.proofs.OfLabel.{either, wide-fit, edge-of, edge-stands, is-0}
+use Rattle.names.proofs.OfLabel.{wide-fit, edge-of, edge-stands, is-0}
 use Rattle.names.proofs.OfName.{two-filled}
 
 -- ---- a plain character

@@ -106,7 +106,7 @@ fn form_grows(kanji: &[u32], form: &[u32]) -> bool
     false
 }
 
-// May the text, with what is typed after it, yet be accepted? Nothing typed so far may, and nothing past 256 may.
+// May the text, with what is typed after it, yet be accepted? An empty text may; one past 256 code points may not.
 pub fn may_become_with(kanji: &[u32], text: &[u32]) -> bool
     ensures { λ r. ⌜ r ≡ hopeful (todayWith (now (kanji .entry))) (now (text .entry)) ⌝ }
 {

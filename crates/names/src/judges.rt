@@ -1,4 +1,4 @@
-// The judge: what the rules say of a text, with its normal form. Every other call on a name asks it.
+// The judge: what the rules say of a text, with its normal form. The check and the whole ASCII form ask it, and so does the live check.
 use crate::ACCEPTED;
 use crate::Checked;
 use crate::EMPTY_LABEL;

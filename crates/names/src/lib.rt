@@ -1,6 +1,7 @@
 // The calls on a name: judge, check, whether it may yet become one, second reader, whole ASCII form. Each takes any text and any lent
 // buffer, says by itself whether the text is fit, and writes nothing where it refuses. Its meaning is defined in `rules` (specs/Rules,
-// Hopeful, Reader) and here in specs/Calls. A call `.._with` is lent the table of kanji, so that a program names that table once; the call without names it itself.
+// Hopeful, Reader) and here in specs/Calls. A call `.._with` is lent the table of kanji, so that a program names that table once; the call
+// without names it itself.
 mod ascii;
 mod checks;
 mod hopes;

@@ -2,7 +2,7 @@
 -- Assumes nothing.
 use mathlib.Core.Path.{_≡_, refl, sym, ap, _∙_}
 use mathlib.Core.Bool.{Bool, true, false}
-use mathlib.Core.List.{List, [], _∷_, _++_, map}
+use mathlib.Core.List.{List, [], _∷_, _++_, map, map-append}
 use Prim.Native.Nat.{ℕ}
 use lib.Dec.{eqb}
 use borrow.Author.Tests.{eqb-false}
@@ -13,10 +13,6 @@ use Rattle.characters.specs.Compose.{composed}
 use Rattle.normal.specs.Normal.{normalForm}
 use Rattle.normal.proofs.Plain.{joinAll, plain, join-stays}
 use Rattle.normal.proofs.Unchanged.{unchanged, none-replaced, none-joined, no-mark}
-
-map-append : (xs ys : List ℕ) → map replace (xs ++ ys) ≡ map replace xs ++ map replace ys
-map-append [] ys = refl
-map-append (x ∷ xs) ys = ap (λ (l : List ℕ). replace x ∷ l) (map-append xs ys)
 
 -- ---- by anything
 
@@ -47,7 +43,7 @@ continues (b ∷ m ∷ rest) ys = go (eqb (composed b m) 0) (continues (m ∷ re
     go false c d = further (composed b m) d
 
 pub continued : (text s : List ℕ) → Continues (normalForm text) (normalForm (text ++ s))
-continued text s = rw (plain text, plain (text ++ s), map-append text s) (continues (map replace text) (map replace s))
+continued text s = rw (plain text, plain (text ++ s), map-append replace text s) (continues (map replace text) (map replace s))
 
 -- ---- by characters that nothing replaces, with no mark among them
 
@@ -67,5 +63,5 @@ join-on (b ∷ m ∷ rest) r e = go (eqb (composed b m) 0) (join-on (m ∷ rest)
 
 pub continued-plain : (text r : List ℕ) → allOf unchanged r ≡ true → normalForm (text ++ r) ≡ normalForm text ++ r
 continued-plain text r e =
-    plain (text ++ r) ∙ ap joinAll (map-append text r ∙ ap (λ (l : List ℕ). map replace text ++ l) (none-replaced r e))
+    plain (text ++ r) ∙ ap joinAll (map-append replace text r ∙ ap (λ (l : List ℕ). map replace text ++ l) (none-replaced r e))
     ∙ join-on (map replace text) r e ∙ ap (λ (l : List ℕ). l ++ r) (sym (plain text))

@@ -1,8 +1,8 @@
--- At most fifteen code points, each basic or from 3003 to 9FA0, are encoded in at most 63 octets.
+-- At most fifteen code points, each basic or from 3003 to 9FA0 and not all basic, are encoded in at most 63 octets.
 --
 -- An octet costs 12,000, and each step that the code points' values rise pays 1; all their steps, from 80 to 9FA0, pay 40,736. After h code points
--- `pot h bias` bounds what the digits to come can cost beyond what the steps to come pay. It has two values: a large delta makes the bias large, and
--- with a bias of 54 or more a large delta has fewer digits. The inequality for one integer needs a test only where its digits become one more
+-- `pot h bias` bounds what the digits to come can cost beyond what the steps to come pay. It has two values: a large integer makes the bias large, and
+-- with a bias of 54 or more a large integer has fewer digits. The inequality for one integer needs a test only where its digits become one more
 -- (`fits`, at 8,424 places), since between these places only the rise grows. Assumes nothing.
 use mathlib.Core.Path.{_≡_, refl, sym, ap, _∙_}
 use mathlib.Core.Bool.{Bool, true, false, _&&_, _||_}
@@ -22,6 +22,7 @@ use Rattle.punycode.proofs.Keys.{from-count}
 use Rattle.punycode.proofs.Reading.{split, threshold-bounds}
 use Rattle.punycode.proofs.Rungs.{encodable-basic}
 use Rattle.punycode.proofs.Runs.{keys-go}
+use Rattle.punycode.proofs.Theorems.{all-below}
 
 -- ---- the digits of an integer
 
@@ -46,13 +47,13 @@ cap-digits (suc k) (suc f) bias j q h =
     rw (le-ltb q t g) (omega arith))
 
 -- q is between two of these
-record Between (bias q top : ℕ) : Type 0 where
+record Between (bias q most : ℕ) : Type 0 where
   k : ℕ
-  under : k < top
+  under : k < most
   from : cap k bias 36 ≤ q
   to : q < cap (suc k) bias 36
 
-ladder : (top bias q : ℕ) → q < cap top bias 36 → Between bias q top
+ladder : (most bias q : ℕ) → q < cap most bias 36 → Between bias q most
 unfolding cap
 ladder zero bias q h = absurd (omega arith)
 ladder (suc k) bias q h = split q (cap k bias 36)
@@ -94,6 +95,7 @@ loop-high f e v h u g = split 455 e
 
 -- ---- the table
 
+-- the potential after h code points, with a bias below 54 and with one of 54 or more
 unfoldable low : ℕ → ℕ
 low h = getD (0 ∷ 651300 ∷ 611100 ∷ 568500 ∷ 524400 ∷ 479300 ∷ 433700 ∷ 387700 ∷ 341400 ∷ 294600 ∷ 247500 ∷ 200400 ∷ 153200 ∷ 106000 ∷ 58100 ∷ 0 ∷ []) h 0
 
@@ -119,6 +121,7 @@ up-at (suc n) p i e h =
     let v = both (p n) (upTo n p) e in
     split i n (λ l. up-at n p i (v .1) l) (λ g. let q : i ≡ n = omega arith in rw q (v .0))
 
+-- what the potential is at most after an integer of at least q: from 2,660 on the bias is 54 or more
 unfoldable next : ℕ → ℕ → ℕ
 next h q = pick (leb 2660 q) (high h) (low h)
 
@@ -318,11 +321,7 @@ unfolding near
 near-small c e = split c 0x80 (λ y. omega arith) (λ y. omega (arith, in-range 0x3003 0x9FA0 c (rw (le-ltb c 0x80 y) at e) .1))
 
 near-bounded : (l : List ℕ) → allOf near l ≡ true → below 0x110000 l ≡ l
-unfolding allOf below
-near-bounded [] h = refl
-near-bounded (c ∷ l) h =
-    let e = both (near c) (allOf near l) h in
-    rw (lt-ltb c 0x110000 (near-small c (e .0)), near-bounded l (e .1))
+near-bounded = all-below near 0x110000 near-small
 
 room-is : (b : ℕ) → b ≤ 14 → room b + 12000 * (4 + b + length (delimiter b)) ≡ 727263
 unfolding room delimiter

@@ -2,7 +2,7 @@
 -- hyphens, since the basic code points and the digits are.
 -- Assumes nothing.
 use mathlib.Core.Path.{_≡_, refl, ap}
-use mathlib.Core.Bool.{true, _&&_, false≢true, or-false}
+use mathlib.Core.Bool.{Bool, true, _&&_, false≢true, or-false}
 use mathlib.Core.List.{List, [], _∷_}
 use mathlib.Core.Option.{some}
 use Prim.Native.Nat.{ℕ, _≤_, _<_}
@@ -29,12 +29,17 @@ point-bounded c h = split c 0x110000 (λ x. x)
       outside 0x80 0x10FFFF c (λ p q. omega arith),
     ) at h)))
 
+-- of a list whose entries are all below n, all is below n
+module _ (f : ℕ → Bool) (n : ℕ) (small : (c : ℕ) → f c ≡ true → c < n) where
+  pub all-below : (l : List ℕ) → allOf f l ≡ true → below n l ≡ l
+  unfolding allOf below
+  all-below [] h = refl
+  all-below (c ∷ l) h =
+      let e = both (f c) (allOf f l) h in
+      rw (lt-ltb c n (small c (e .0)), all-below l (e .1))
+
 pub bounded : (l : List ℕ) → allOf allowed l ≡ true → below 0x110000 l ≡ l
-unfolding allOf below
-bounded [] h = refl
-bounded (c ∷ l) h =
-    let e = both (allowed c) (allOf allowed l) h in
-    rw (lt-ltb c 0x110000 (point-bounded c (e .0)), bounded l (e .1))
+bounded = all-below allowed 0x110000 point-bounded
 
 point-basic : (c : ℕ) → c < 128 → allowed c ≡ true → ldh c ≡ true
 unfolding allowed wide

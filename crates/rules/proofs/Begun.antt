@@ -5,11 +5,11 @@ use mathlib.Core.Path.{_≡_, refl, sym, ap, _∙_}
 use mathlib.Core.Bool.{Bool, true, false, not, _||_}
 use mathlib.Core.List.{List, [], _∷_, _++_, append-assoc}
 use mathlib.Core.Logic.{_⊎_, inl, inr, ⊎-elim}
-use Prim.Native.Nat.{ℕ, _≤_}
+use Prim.Native.Nat.{ℕ}
 use native.Mathlib.Omega.{arith}
 use lib.Dec.{eqb}
 use Rattle.lists.specs.Tests.{within, allOf, anyOf, same}
-use Rattle.lists.proofs.Laws.{both, neither, or-left, or-right, clash, outside, in-range, all-append, any-append, any-weaker, all-none, same-is}
+use Rattle.lists.proofs.Laws.{both, neither, or-left, or-right, either, clash, outside, in-range, all-append, any-append, any-weaker, all-none, same-is}
 use Rattle.characters.specs.Characters.{asciiSet}
 use Rattle.characters.specs.Compose.{voiced, repeats, halfVoiced, composed}
 use Rattle.characters.proofs.Pairs.{of-base, composed-kana}
@@ -17,19 +17,12 @@ use Rattle.rules.specs.Labels.{period, labels}
 use Rattle.rules.specs.Permits.{Permits, Laws, labelChar, middle}
 use Rattle.rules.specs.Rules.{middleDot, ordinary, jp}
 use Rattle.rules.specs.Grammar.{Derives, general, prefecture, listed}
-use Rattle.rules.specs.Hopeful.{begins, leftmost, grows, settled, Hopes}
+use Rattle.rules.specs.Hopeful.{begins, leftmost, grows, settled, HopeLaws}
 use Rattle.rules.specs.declared.Class.{Class}
 use Rattle.rules.proofs.Cuts.{labels-cut, labels-one}
 use Rattle.rules.proofs.Sound.{Sound, ascii-range, label-sound, sound-label}
 use Rattle.rules.proofs.Derived.{of-middle, no-period}
-use Rattle.rules.proofs.Growing.{is-begins, clear-leftmost, one-more, exchanged}
-
--- the two characters at the end of a derived name, and the three
-abbrev endJp : List ℕ
-endJp = 0x6A ∷ 0x70 ∷ []
-
-abbrev dotJp : List ℕ
-dotJp = 0x2E ∷ endJp
+use Rattle.rules.proofs.Growing.{endJp, dotJp, is-begins, clear-leftmost, one-more, exchanged}
 
 -- ---- lists
 
@@ -64,18 +57,16 @@ kana c = within 0x3041 0x30FE c
 
 settled-no-kana : (c : ℕ) → settled c ≡ true → kana c ≡ false
 unfolding settled
-settled-no-kana c e = outside 0x3041 0x30FE c (λ lo hi. go (asciiSet c) refl e lo hi)
-  where
-    go : (b : Bool) → asciiSet c ≡ b → b || within 0x4E00 0x9FA0 c ≡ true → 0x3041 ≤ c → c ≤ 0x30FE → ⊥
-    go true p q lo hi = let h = ascii-range c p in omega arith
-    go false p q lo hi = let h = in-range 0x4E00 0x9FA0 c q in omega arith
+settled-no-kana c e =
+    outside 0x3041 0x30FE c
+    (λ lo hi. either (asciiSet c) _ e (λ p. let h = ascii-range c p in omega arith) (λ p. let h = in-range 0x4E00 0x9FA0 c p in omega arith))
 
 -- a base is none of the three signs
 base-plain : (b m : ℕ) → (composed b m ≡ 0 → ⊥) → not (eqb b 0x3006 || (eqb b 0x30FC || middleDot b)) ≡ true
 unfolding voiced repeats halfVoiced allOf middleDot
 base-plain b m n = of-base (λ (v : ℕ). not (eqb v 0x3006 || (eqb v 0x30FC || eqb v 0x30FB))) b m refl refl refl refl n
 
-module _ (P : Permits) (H : Hopes P) where
+module _ (P : Permits) (H : HopeLaws P) where
   abbrev L : Laws P
   L = H .laws
 
@@ -92,12 +83,9 @@ module _ (P : Permits) (H : Hopes P) where
   -- what is composed, where a label may hold it, is Japanese
   composed-japanese : (b m : ℕ) → (composed b m ≡ 0 → ⊥) → labelChar P (composed b m) ≡ true → P .japanese (composed b m) ≡ true
   unfolding labelChar
-  composed-japanese b m n e = go (P .japanese (composed b m)) (asciiSet (composed b m)) refl e
-    where
-      go : (j a : Bool) → asciiSet (composed b m) ≡ a → j || a ≡ true → j ≡ true
-      go true a p q = refl
-      go false true p q = absurd (let h = ascii-range (composed b m) p in let k = in-range 0x3041 0x30FE (composed b m) (composed-kana b m n) in omega arith)
-      go false false p q = q
+  composed-japanese b m n e =
+      let k = in-range 0x3041 0x30FE (composed b m) (composed-kana b m n) in
+      either (P .japanese (composed b m)) _ e (λ p. p) (λ p. absurd (let h = ascii-range (composed b m) p in omega arith))
 
   base-ordinary : (b m : ℕ) → (composed b m ≡ 0 → ⊥) → ordinary P b ≡ true
   unfolding ordinary
@@ -128,28 +116,28 @@ module _ (P : Permits) (H : Hopes P) where
   Grows f = grows P (labels f) ≡ true
 
   -- a beginning of a text without a period is one label
-  one-label : (f s w : List ℕ) → w ≡ f ++ s → anyOf period w ≡ false → labels f ≡ f ∷ []
-  one-label f s w e n = labels-one f (neither (anyOf period f) (anyOf period s) (sym (any-append period f s) ∙ (rw e at n)) .0)
+  begun-one : (f s w : List ℕ) → w ≡ f ++ s → anyOf period w ≡ false → labels f ≡ f ∷ []
+  begun-one f s w e n = labels-one f (neither (anyOf period f) (anyOf period s) (sym (any-append period f s) ∙ (rw e at n)) .0)
 
   -- a beginning of jp, after one label and after two
   jp-begun : (g r : List ℕ) → g ++ r ≡ endJp → (begins g jp ≡ true) × (labels g ≡ g ∷ [])
   unfolding jp anyOf period
-  jp-begun g r e = (rw (← e) (is-begins g r), one-label g r endJp (sym e) refl)
+  jp-begun g r e = (rw (← e) (is-begins g r), begun-one g r endJp (sym e) refl)
 
   module _ {l : List ℕ} (S : Sound P l) where
     in-first : (f s : List ℕ) → l ≡ f ++ s → Grows f
     unfolding grows
-    in-first f s e = rw (one-label f s l e (no-period P L l (S .chars))) (one-more P L (H .tried) f s (rw e at S))
+    in-first f s e = rw (begun-one f s l e (no-period P L l (S .chars))) (one-more P L (H .tried) f s (rw e at S))
 
     past-first : (g : List ℕ) {ls : List (List ℕ)} → labels g ≡ ls → grows P (l ∷ ls) ≡ true → Grows (l ++ 0x2E ∷ g)
     past-first g e h = rw (labels-cut l g (no-period P L l (S .chars)), e) h
 
-    first-is : leftmost P l ≡ true
-    first-is = clear-leftmost P l (S .clear)
+    left-is : leftmost P l ≡ true
+    left-is = clear-leftmost P l (S .clear)
 
     in-jp : (g r : List ℕ) → g ++ r ≡ endJp → Grows (l ++ 0x2E ∷ g)
     unfolding grows
-    in-jp g r e = let k = jp-begun g r e in past-first g (k .1) (rw (first-is, k .0))
+    in-jp g r e = let k = jp-begun g r e in past-first g (k .1) (rw (left-is, k .0))
 
     module _ (m : List ℕ) (p : middle P m ≡ true) where
       middle-no-period : anyOf period m ≡ false
@@ -160,13 +148,13 @@ module _ (P : Permits) (H : Hopes P) where
       in-middle g s e =
           let some : anyOf (begins g) (P .middles) ≡ true =
           any-weaker (same m) (begins g) (λ c q. rw (← same-is m c q, e) (is-begins g s)) (P .middles) p in
-          past-first g (one-label g s m e middle-no-period) (rw (first-is, some) (or-right (begins g jp) true refl))
+          past-first g (begun-one g s m e middle-no-period) (rw (left-is, some) (or-right (begins g jp) true refl))
 
       in-last : (h r : List ℕ) → h ++ r ≡ endJp → Grows (l ++ 0x2E ∷ (m ++ 0x2E ∷ h))
       unfolding grows
       in-last h r e =
           let k = jp-begun h r e in
-          past-first (m ++ 0x2E ∷ h) (labels-cut m h middle-no-period ∙ ap (λ (x : List (List ℕ)). m ∷ x) (k .1)) (rw (first-is, p, k .0))
+          past-first (m ++ 0x2E ∷ h) (labels-cut m h middle-no-period ∙ ap (λ (x : List (List ℕ)). m ∷ x) (k .1)) (rw (left-is, p, k .0))
 
   pub derived-grows : {k : Class} {t : List ℕ} (f r : List ℕ) → Derives P k t → f ++ r ≡ t → Grows f
   derived-grows f r (general {l = l} d) e =

@@ -7,12 +7,12 @@ use mathlib.Core.List.{List, [], _∷_, _++_}
 use mathlib.Core.Logic.{_⊎_, inl, inr, ⊎-elim}
 use Prim.Native.Nat.{ℕ, _-_, _≤_}
 use native.Mathlib.Omega.{arith}
-use lib.Dec.{eqb, leb, ltb}
+use lib.Dec.{eqb, leb}
 use lib.ListN.{length, getD, length-append}
 use borrow.Author.Tests.{eqb-true, ltb-false, leb-true, not-true, not-false}
 use Rattle.lists.specs.Tests.{pick, within, allOf, anyOf}
 use Rattle.lists.specs.Rows.{Row}
-use Rattle.lists.proofs.Laws.{both, neither, or-right, any-append, all-none, in-lists, same-is, same-refl}
+use Rattle.lists.proofs.Laws.{both, neither, or-right, refuted, any-append, all-none, in-lists, same-is, same-refl}
 use Rattle.lists.proofs.Tables.{Clear}
 use Rattle.characters.specs.Characters.{alnum, hyphen, asciiSet}
 use Rattle.rules.specs.Labels.{period, onto, labels, join}
@@ -35,13 +35,17 @@ join-clear (r ∷ rs) ss c d = (c .0, join-clear rs ss (c .1) d)
 
 -- ---- a label to which none of 7 to 10 applies has at most 63 characters
 
+pub left-size : (P : Permits) (l : List ℕ) → long P l ≡ false → length l ≤ pick (isJapanese P l) 15 63
+unfolding long
+left-size P l e = ltb-false (pick (isJapanese P l) 15 63) (length l) e
+
 pub clear-length : (P : Permits) (l : List ℕ) → Clear (labelRows P 3 l 0) → length l ≤ 63
-unfolding labelRows long
-clear-length P l c = go (isJapanese P l) (c .1 .1 .0)
+unfolding labelRows
+clear-length P l c = go (isJapanese P l) (left-size P l (c .1 .1 .0))
   where
-    go : (b : Bool) → ltb (pick b 15 63) (length l) ≡ false → length l ≤ 63
-    go true e = omega (arith, ltb-false 15 (length l) e)
-    go false e = omega (arith, ltb-false 63 (length l) e)
+    go : (b : Bool) → length l ≤ pick b 15 63 → length l ≤ 63
+    go true h = omega arith
+    go false h = h
 
 -- ---- what is computed of the prefecture labels of an edition holds of each
 
@@ -113,11 +117,7 @@ module _ (P : Permits) (L : Laws P) where
 
   label-no-period : (c : ℕ) → labelChar P c ≡ true → period c ≡ false
   unfolding labelChar period asciiSet alnum within hyphen
-  label-no-period c e = go (eqb c 0x2E) refl
-    where
-      go : (b : Bool) → eqb c 0x2E ≡ b → b ≡ false
-      go false p = refl
-      go true p = absurd (false≢true (rw (eqb-true c 0x2E p, low P L 0x2E (omega arith)) at e))
+  label-no-period c e = refuted (eqb c 0x2E) (λ p. false≢true (rw (eqb-true c 0x2E p, low P L 0x2E (omega arith)) at e))
 
   pub no-period : (l : List ℕ) → allOf (labelChar P) l ≡ true → anyOf period l ≡ false
   no-period l w = all-none (labelChar P) period label-no-period l w

@@ -1,5 +1,5 @@
--- A label that goes on: one character more makes a leftmost label of whatever may still become one, and a character that a mark joins
--- changes nothing that rules 7 to 10 ask.
+-- A label that goes on: whatever may still become a leftmost label is one, or one character more makes it one; and a character that a
+-- mark joins changes nothing that rules 7 to 10 ask.
 -- Assumes nothing.
 use mathlib.Core.Path.{_≡_, refl, sym, ap, _∙_}
 use mathlib.Core.Bool.{Bool, true, false, _&&_, true≢false}
@@ -13,15 +13,22 @@ use lib.Seq.{take-append-seam}
 use borrow.Author.Tests.{eqb-true, eq-eqb, ltb-false, le-ltb}
 use Rattle.lists.specs.Tests.{pick, within, allOf, anyOf, same}
 use Rattle.lists.specs.Rows.{Answer}
-use Rattle.lists.proofs.Laws.{both, neither, or-left, or-right, clash, lt-or-le, all-append, any-append, any-weaker, same-is, same-refl}
+use Rattle.lists.proofs.Laws.{both, neither, or-left, or-right, refuted, clash, lt-or-le, all-append, any-append, any-weaker, same-is, same-refl}
 use Rattle.lists.proofs.Tables.{Clear, clear}
 use Rattle.characters.specs.Characters.{alnum, hyphen, asciiSet}
 use Rattle.rules.specs.Permits.{Permits, Laws, labelChar, isEmpty}
 use Rattle.rules.specs.Rules.{middleDot, ordinary, isJapanese, beginsWithHyphen, endsWithHyphen, hyphenEdge, short, long, bareDot, labelRows}
 use Rattle.rules.specs.Hopeful.{begins, leftmost, tries}
 use Rattle.rules.proofs.Views.{and-false, Cut, cut, cut-at}
-use Rattle.rules.proofs.Sound.{Sound, ascii-not, ends-snoc, hyphen-ascii}
+use Rattle.rules.proofs.Sound.{Sound, ascii-not, no-hyphen, ends-snoc}
 use Rattle.rules.proofs.Steps.{label-clear}
+
+-- the two characters at the end of a derived name, and the three
+abbrev pub endJp : List ℕ
+endJp = 0x6A ∷ 0x70 ∷ []
+
+abbrev pub dotJp : List ℕ
+dotJp = 0x2E ∷ endJp
 
 -- ---- a beginning of a list, and an entry of a list
 
@@ -89,11 +96,7 @@ ends-later (a ∷ b ∷ l) x y ys = ends-later (b ∷ l) x y ys
 module _ (P : Permits) where
   none-ordinary : (m : List ℕ) → anyOf (P .japanese) m ≡ false → anyOf (ordinary P) m ≡ false
   unfolding ordinary
-  none-ordinary m n = go (anyOf (ordinary P) m) refl
-    where
-      go : (b : Bool) → anyOf (ordinary P) m ≡ b → b ≡ false
-      go true e = clash (any-weaker (ordinary P) (P .japanese) (λ c h. both (P .japanese c) _ h .0) m e) n
-      go false e = refl
+  none-ordinary m n = refuted (anyOf (ordinary P) m) (λ e. clash (any-weaker (ordinary P) (P .japanese) (λ c h. both (P .japanese c) _ h .0) m e) n)
 
   no-dots : (m : List ℕ) → Sound P m → anyOf (P .japanese) m ≡ false → anyOf middleDot m ≡ false
   unfolding labelRows bareDot
@@ -131,29 +134,29 @@ module _ (P : Permits) (L : Laws P) where
 
   -- what may still become a leftmost label is one, or one character more makes it one
   module _ (ja : P .japanese 0x3042 ≡ true) (l : List ℕ) where
-    abbrev Tried : Type 0
-    Tried = anyOf (λ (r : List ℕ). leftmost P (l ++ r)) tries ≡ true
+    abbrev GrowsOn : Type 0
+    GrowsOn = anyOf (λ (r : List ℕ). leftmost P (l ++ r)) tries ≡ true
 
-    by-kana : beginsWithHyphen l ≡ false → length l ≤ 14 → Tried
+    by-kana : beginsWithHyphen l ≡ false → length l ≤ 14 → GrowsOn
     unfolding tries anyOf
     by-kana b h =
         or-right (leftmost P (l ++ [])) _ (or-left (leftmost P (l ++ 0x3042 ∷ [])) _ (clear-leftmost P (l ++ 0x3042 ∷ []) (kana-more ja l b h)))
 
-    by-letter : beginsWithHyphen l ≡ false → anyOf (P .japanese) l ≡ false → anyOf middleDot l ≡ false → 2 ≤ length l → length l ≤ 62 → Tried
+    by-letter : beginsWithHyphen l ≡ false → anyOf (P .japanese) l ≡ false → anyOf middleDot l ≡ false → 2 ≤ length l → length l ≤ 62 → GrowsOn
     unfolding tries anyOf
     by-letter b n d lo hi =
         or-right (leftmost P (l ++ [])) _
         (or-right (leftmost P (l ++ 0x3042 ∷ [])) _
         (or-left (leftmost P (l ++ 0x61 ∷ [])) _ (clear-leftmost P (l ++ 0x61 ∷ []) (letter-more ja l b n d lo hi))))
 
-    pub one-more : (r : List ℕ) → Sound P (l ++ r) → Tried
+    pub one-more : (r : List ℕ) → Sound P (l ++ r) → GrowsOn
     unfolding tries anyOf hyphenEdge labelRows long isJapanese
     one-more [] S = or-left (leftmost P (l ++ [])) _ (clear-leftmost P (l ++ []) (S .clear))
     one-more (x ∷ xs) S =
         go (anyOf (P .japanese) (l ++ x ∷ xs)) refl (S .clear .1 .1 .0)
         (begins-less l (x ∷ xs) (neither (beginsWithHyphen (l ++ x ∷ xs)) (endsWithHyphen (l ++ x ∷ xs)) (S .clear .0) .0))
       where
-        go : (j : Bool) → anyOf (P .japanese) (l ++ x ∷ xs) ≡ j → ltb (pick j 15 63) (length (l ++ x ∷ xs)) ≡ false → beginsWithHyphen l ≡ false → Tried
+        go : (j : Bool) → anyOf (P .japanese) (l ++ x ∷ xs) ≡ j → ltb (pick j 15 63) (length (l ++ x ∷ xs)) ≡ false → beginsWithHyphen l ≡ false → GrowsOn
         go true p h b = by-kana b (omega (arith, length-append l (x ∷ xs), ltb-false 15 (length (l ++ x ∷ xs)) h))
         go false p h b =
             let none : anyOf (P .japanese) l ≡ false = neither (anyOf (P .japanese) l) _ (sym (any-append (P .japanese) l (x ∷ xs)) ∙ p) .0 in
@@ -166,20 +169,13 @@ module _ (P : Permits) (L : Laws P) where
 
   -- b in the place of c, where b is ordinary and c Japanese
   module _ (f : List ℕ) (b c : ℕ) (r : List ℕ) (jb : P .japanese b ≡ true) (ob : ordinary P b ≡ true) (jc : P .japanese c ≡ true) where
-    no-hyphen : (x : ℕ) → P .japanese x ≡ true → hyphen x ≡ false
-    no-hyphen x j = go (hyphen x) refl
-      where
-        go : (t : Bool) → hyphen x ≡ t → t ≡ false
-        go true e = clash j (ascii-not P L x (hyphen-ascii x e))
-        go false e = refl
-
     same-begin : (g : List ℕ) → beginsWithHyphen (g ++ c ∷ r) ≡ false → beginsWithHyphen (g ++ b ∷ r) ≡ false
     unfolding beginsWithHyphen
-    same-begin [] e = no-hyphen b jb
+    same-begin [] e = no-hyphen P L b jb
     same-begin (x ∷ xs) e = e
 
     same-end : (s : List ℕ) → endsWithHyphen (f ++ c ∷ s) ≡ false → endsWithHyphen (f ++ b ∷ s) ≡ false
-    same-end [] e = ends-snoc f b ∙ no-hyphen b jb
+    same-end [] e = ends-snoc f b ∙ no-hyphen P L b jb
     same-end (y ∷ ys) e = ends-later f b y ys ∙ sym (ends-later f c y ys) ∙ e
 
     filled-at : (g : List ℕ) → isEmpty (g ++ b ∷ r) ≡ false

@@ -1,5 +1,5 @@
--- What may grow is carried on to a derived name by characters that nothing replaces and no mark: what was tried, and the rest of a prefecture
--- label, of a period and of jp.
+-- What may grow is carried on to a derived name by characters that nothing replaces and no mark: what was tried, the rest of a prefecture
+-- label, a period, the rest of jp.
 -- Assumes nothing.
 use mathlib.Core.Path.{_≡_, refl, sym, _∙_}
 use mathlib.Core.Bool.{Bool, true, false, _||_, false≢true}
@@ -7,7 +7,7 @@ use mathlib.Core.List.{List, [], _∷_, _++_, append-assoc}
 use Prim.Native.Nat.{ℕ}
 use native.Mathlib.Omega.{arith}
 use Rattle.lists.specs.Tests.{within, allOf, anyOf}
-use Rattle.lists.proofs.Laws.{both, or-right, in-range, all-append, all-weaker}
+use Rattle.lists.proofs.Laws.{both, or-right, either, in-range, all-append, all-weaker}
 use Rattle.characters.specs.Characters.{alnum, asciiSet}
 use Rattle.characters.specs.Replace.{ranges, rangeIn, isHalf, replaceIn, replace}
 use Rattle.characters.proofs.Classes.{stays, ascii-stays}
@@ -16,25 +16,20 @@ use Rattle.rules.specs.Labels.{join}
 use Rattle.rules.specs.Permits.{Permits, Laws, labelChar, middle}
 use Rattle.rules.specs.Rules.{jp}
 use Rattle.rules.specs.Grammar.{Derives, general, prefecture, listed}
-use Rattle.rules.specs.Hopeful.{begins, leftmost, tries, grows, settled, Hopes}
+use Rattle.rules.specs.Hopeful.{begins, leftmost, tries, grows, settled, HopeLaws}
 use Rattle.rules.specs.declared.Class.{Class}
 use Rattle.rules.specs.declared.Class.the-variants.{General, Prefecture}
 use Rattle.rules.proofs.Sound.{Sound, ascii-range, sound-label}
 use Rattle.rules.proofs.Derived.{of-middle}
-use Rattle.rules.proofs.Growing.{begins-is, one-of, leftmost-sound}
-
-abbrev dotJp : List ℕ
-dotJp = 0x2E ∷ 0x6A ∷ 0x70 ∷ []
+use Rattle.rules.proofs.Growing.{endJp, dotJp, begins-is, one-of, leftmost-sound}
 
 -- ---- what stays as it is
 
 settled-unchanged : (c : ℕ) → settled c ≡ true → unchanged c ≡ true
 unfolding settled
-settled-unchanged c e = go (asciiSet c) refl e
-  where
-    go : (b : Bool) → asciiSet c ≡ b → b || within 0x4E00 0x9FA0 c ≡ true → unchanged c ≡ true
-    go true p q = let h = ascii-range c p in unchanged-by c (ascii-stays c p) (λ z. omega arith) (λ z. omega arith)
-    go false p q = let h = in-range 0x4E00 0x9FA0 c q in unchanged-by c (stays c (omega arith) (omega arith)) (λ z. omega arith) (λ z. omega arith)
+settled-unchanged c e = either (asciiSet c) _ e
+    (λ p. let h = ascii-range c p in unchanged-by c (ascii-stays c p) (λ z. omega arith) (λ z. omega arith))
+    (λ p. let h = in-range 0x4E00 0x9FA0 c p in unchanged-by c (stays c (omega arith) (omega arith)) (λ z. omega arith) (λ z. omega arith))
 
 dot-jp-unchanged : allOf unchanged dotJp ≡ true
 unfolding allOf unchanged replace replaceIn isHalf ranges rangeIn within
@@ -42,7 +37,7 @@ dot-jp-unchanged = refl
 
 jp-unchanged : allOf unchanged jp ≡ true
 unfolding jp allOf
-jp-unchanged = both (unchanged 0x2E) (allOf unchanged (0x6A ∷ 0x70 ∷ [])) dot-jp-unchanged .1
+jp-unchanged = both (unchanged 0x2E) (allOf unchanged endJp) dot-jp-unchanged .1
 
 unchanged-rest : (w l r : List ℕ) → w ≡ l ++ r → allOf unchanged w ≡ true → allOf unchanged r ≡ true
 unchanged-rest w l r e u = both (allOf unchanged l) (allOf unchanged r) (sym (all-append unchanged l r) ∙ (rw e at u)) .1
@@ -50,7 +45,7 @@ unchanged-rest w l r e u = both (allOf unchanged l) (allOf unchanged r) (sym (al
 unchanged-jp : (r : List ℕ) → allOf unchanged r ≡ true → allOf unchanged (r ++ dotJp) ≡ true
 unchanged-jp r u = all-append unchanged r dotJp ∙ rw u dot-jp-unchanged
 
-module _ (P : Permits) (H : Hopes P) where
+module _ (P : Permits) (H : HopeLaws P) where
   abbrev L : Laws P
   L = H .laws
 
@@ -135,11 +130,8 @@ module _ (P : Permits) (H : Hopes P) where
   grown (l ∷ []) w e = first-grown l (both (allOf (labelChar P) l) true w .0) e
   grown (l ∷ m ∷ []) w e =
       let k = both (leftmost P l) _ e in
-      go (begins m jp) refl (k .0) (k .1) (both (allOf (labelChar P) l) _ w .0)
-    where
-      go : (b : Bool) → begins m jp ≡ b → leftmost P l ≡ true → b || anyOf (begins m) (P .middles) ≡ true → allOf (labelChar P) l ≡ true → Grown (l ++ 0x2E ∷ m)
-      go true p S q v = jp-on l v S m p
-      go false p S q v = middle-on l v S m q
+      let v = both (allOf (labelChar P) l) _ w .0 in
+      either (begins m jp) _ (k .1) (λ p. jp-on l v (k .0) m p) (λ p. middle-on l v (k .0) m p)
   grown (l ∷ m ∷ z ∷ []) w e =
       let k = both (leftmost P l) _ e in
       let h = both (middle P m) (begins z jp) (k .1) in

@@ -2,21 +2,21 @@
 -- has the labels that may grow (proofs/Begun); and what may grow is carried on to a derived name (proofs/Grown).
 -- Assumes nothing.
 use mathlib.Core.Path.{_≡_, refl, sym, ap, _∙_}
-use mathlib.Core.Bool.{Bool, true, false, not}
+use mathlib.Core.Bool.{true, false, not}
 use mathlib.Core.List.{List, [], _++_, append-assoc, append-nil}
 use mathlib.Core.Logic.{_↔_}
 use Prim.Native.Nat.{ℕ}
 use lib.Seq.{append-snoc}
 use borrow.Author.Tests.{not-true}
 use Rattle.lists.specs.Tests.{anyOf}
-use Rattle.lists.proofs.Laws.{both, neither, clash, any-append}
+use Rattle.lists.proofs.Laws.{both, neither, refuted, clash, any-append}
 use Rattle.normal.specs.Normal.{normalForm}
 use Rattle.normal.proofs.Continued.{Continues, apart, joined, continued, continued-plain}
 use Rattle.rules.specs.Labels.{labels}
 use Rattle.rules.specs.Permits.{Permits}
 use Rattle.rules.specs.Rules.{unfit, rules}
 use Rattle.rules.specs.Grammar.{Derives}
-use Rattle.rules.specs.Hopeful.{MayBecome, grows, hopeful, Hopes}
+use Rattle.rules.specs.Hopeful.{MayBecome, grows, hopeful, HopeLaws}
 use Rattle.rules.specs.declared.Class.{Class}
 use Rattle.rules.specs.declared.Verdict.{Verdict}
 use Rattle.rules.proofs.Cuts.{join-labels, labels-fit}
@@ -25,7 +25,7 @@ use Rattle.rules.proofs.Exactly.{class, number-accepted, accepted-deriv
 use Rattle.rules.proofs.Begun.{uncomposed, derived-grows}
 use Rattle.rules.proofs.Grown.{Grown, grown}
 
-module _ (P : Permits) (H : Hopes P) where
+module _ (P : Permits) (H : HopeLaws P) where
   -- ---- the theorem
 
   module _ (text : List ℕ) where
@@ -71,10 +71,6 @@ module _ (P : Permits) (H : Hopes P) where
 
     -- and it stays so
     pub hopeless-stays : (s : List ℕ) → hopeful P text ≡ false → hopeful P (text ++ s) ≡ false
-    hopeless-stays s e = go (hopeful P (text ++ s)) refl
-      where
-        go : (b : Bool) → hopeful P (text ++ s) ≡ b → b ≡ false
-        go true p =
-            let c = hopeful-exactly (text ++ s) .0 p in
-            absurd (hopeless-refused (s ++ c .0) e (rw (← append-assoc text s (c .0)) (c .1)))
-        go false p = refl
+    hopeless-stays s e = refuted (hopeful P (text ++ s)) (λ p.
+        let c = hopeful-exactly (text ++ s) .0 p in
+        hopeless-refused (s ++ c .0) e (rw (← append-assoc text s (c .0)) (c .1)))

@@ -1,15 +1,15 @@
 -- Past 256 code points there is no hope: labels that may grow have 127 characters at most, and a text has at most twice as many
 -- code points as its normal form has characters. This asks of an edition only that its prefecture labels are short.
 -- Assumes nothing.
-use mathlib.Core.Path.{_≡_, refl, ap}
-use mathlib.Core.Bool.{Bool, true, false, not, _||_, false≢true}
+use mathlib.Core.Path.{_≡_, ap}
+use mathlib.Core.Bool.{true, false, not, _||_, false≢true}
 use mathlib.Core.List.{List, [], _∷_, _++_}
 use Prim.Native.Nat.{ℕ, _≤_, _<_}
 use native.Mathlib.Omega.{arith}
 use lib.Dec.{leb}
 use lib.ListN.{length, length-append}
 use Rattle.lists.specs.Tests.{allOf, anyOf}
-use Rattle.lists.proofs.Laws.{both}
+use Rattle.lists.proofs.Laws.{both, either, refuted}
 use Rattle.normal.specs.Normal.{normalForm}
 use Rattle.normal.proofs.Laws.{not-twice}
 use Rattle.rules.specs.Labels.{labels, join}
@@ -34,13 +34,11 @@ module _ (P : Permits) (short : allOf (λ (l : List ℕ). leb (length l) 15) (P 
 
   second-length : (m : List ℕ) → begins m jp || anyOf (begins m) (P .middles) ≡ true → length m ≤ 15
   unfolding jp
-  second-length m e = go (begins m jp) refl e
-    where
-      go : (b : Bool) → begins m jp ≡ b → b || anyOf (begins m) (P .middles) ≡ true → length m ≤ 15
-      go true p q = omega (arith, begins-length m jp p)
-      go false p q =
-          let k = one-of (begins m) (P .middles) q in
-          omega (arith, begins-length m (k .0) (k .1), middle-length P short (k .0) (unfold middle in k .2))
+  second-length m e = either (begins m jp) _ e
+      (λ p. omega (arith, begins-length m jp p))
+      (λ p.
+      let k = one-of (begins m) (P .middles) p in
+      omega (arith, begins-length m (k .0) (k .1), middle-length P short (k .0) (unfold middle in k .2)))
 
   grows-length : (ls : List (List ℕ)) → grows P ls ≡ true → length (join ls) ≤ 127
   unfolding grows join jp
@@ -57,11 +55,7 @@ module _ (P : Permits) (short : allOf (λ (l : List ℕ). leb (length l) 15) (P 
 
   pub past-hope : (text : List ℕ) → 256 < length text → hopeful P text ≡ false
   unfolding hopeful
-  past-hope text h = go (hopeful P text) refl
-    where
-      go : (b : Bool) → hopeful P text ≡ b → b ≡ false
-      go true p =
-          let form = normalForm text in
-          let g = both (not (anyOf (unfit P) form)) (grows P (labels form)) p in
-          absurd (omega (arith, ap length (join-labels form), grows-length (labels form) (g .1), not-twice text))
-      go false p = refl
+  past-hope text h = refuted (hopeful P text) (λ p.
+      let form = normalForm text in
+      let g = both (not (anyOf (unfit P) form)) (grows P (labels form)) p in
+      omega (arith, ap length (join-labels form), grows-length (labels form) (g .1), not-twice text))

@@ -15,7 +15,7 @@ use Rattle.rules.specs.declared.Class.{Class}
 use Rattle.rules.proofs.Sound.{Sound}
 use Rattle.rules.proofs.ReaderAgrees.{reader-agrees}
 use Rattle.rules.proofs.Exactly.{accepted-derives}
-use Rattle.rules.proofs.Today.{today-laws, today-hopes}
+use Rattle.rules.proofs.Today.{today-laws, today-hope-laws}
 use Rattle.rules.proofs.Hopeful.{hopeful-exactly}
 
 -- a text is accepted as a name of class k exactly where its normal form derives as one
@@ -28,4 +28,4 @@ reader-today = reader-agrees today today-laws
 
 -- a text is hopeful exactly where it may become a name: some continuation of it, the empty one included, is accepted
 pub hopeful-today : (text : List ℕ) → (hopeful today text ≡ true) ↔ MayBecome today text
-hopeful-today = hopeful-exactly today today-hopes
+hopeful-today = hopeful-exactly today today-hope-laws

@@ -10,7 +10,7 @@ use lib.Dec.{eqb, ltb}
 use lib.ListN.{length}
 use borrow.Author.Tests.{eqb-true, ne-eqb, ltb-false, le-ltb, not-true}
 use Rattle.lists.specs.Tests.{within, allOf, anyOf}
-use Rattle.lists.proofs.Laws.{both, neither, or-left, or-right, clash, in-range, all-append, any-append, all-weaker, all-none}
+use Rattle.lists.proofs.Laws.{both, neither, or-left, or-right, refuted, clash, in-range, all-append, any-append, all-weaker, all-none}
 use Rattle.lists.proofs.Tables.{Clear}
 use Rattle.characters.specs.Characters.{alnum, hyphen, asciiSet}
 use Rattle.rules.specs.Permits.{Permits, Laws, labelChar, isEmpty}
@@ -45,11 +45,7 @@ ascii-range c e = go (alnum c) refl e
 
 -- no Japanese character stands below 3003, so none is of the ASCII set
 pub low : (P : Permits) → Laws P → (c : ℕ) → c < 0x3003 → P .japanese c ≡ false
-low P L c h = go (P .japanese c) refl
-  where
-    go : (b : Bool) → P .japanese c ≡ b → b ≡ false
-    go true p = absurd (let k = in-range 0x3003 0x9FA0 c (L .stretch c p) in omega arith)
-    go false p = refl
+low P L c h = refuted (P .japanese c) (λ p. let k = in-range 0x3003 0x9FA0 c (L .stretch c p) in omega arith)
 
 pub ascii-not : (P : Permits) → Laws P → (c : ℕ) → asciiSet c ≡ true → P .japanese c ≡ false
 ascii-not P L c e = low P L c (let h = ascii-range c e in omega arith)
@@ -61,6 +57,9 @@ ascii-no-dot c e = let h = ascii-range c e in ne-eqb c 0x30FB (omega arith)
 pub hyphen-ascii : (c : ℕ) → hyphen c ≡ true → asciiSet c ≡ true
 unfolding asciiSet
 hyphen-ascii c e = or-right (alnum c) (hyphen c) e
+
+pub no-hyphen : (P : Permits) → Laws P → (c : ℕ) → P .japanese c ≡ true → hyphen c ≡ false
+no-hyphen P L c j = refuted (hyphen c) (λ e. clash j (ascii-not P L c (hyphen-ascii c e)))
 
 -- a letter or a digit is of the ASCII set, and no hyphen; what else is of it is the hyphen
 alnum-ascii : (c : ℕ) → alnum c ≡ true → (asciiSet c ≡ true) × (hyphen c ≡ false)
@@ -89,12 +88,8 @@ module _ (P : Permits) (L : Laws P) where
   unfolding edgeChar labelChar
   edge-label c e = go (P .japanese c) refl e
     where
-      no-hyphen : (b : Bool) → hyphen c ≡ b → P .japanese c ≡ true → b ≡ false
-      no-hyphen true p j = clash j (ascii-not P L c (hyphen-ascii c p))
-      no-hyphen false p j = refl
-
       go : (b : Bool) → P .japanese c ≡ b → b || alnum c ≡ true → (P .japanese c || asciiSet c ≡ true) × (hyphen c ≡ false)
-      go true p q = (or-left (P .japanese c) (asciiSet c) p, no-hyphen (hyphen c) refl p)
+      go true p q = (or-left (P .japanese c) (asciiSet c) p, no-hyphen P L c p)
       go false p q = let k = alnum-ascii c q in (or-right (P .japanese c) (asciiSet c) (k .0), k .1)
 
   label-edge : (c : ℕ) → labelChar P c ≡ true → hyphen c ≡ false → edgeChar P c ≡ true

@@ -18,7 +18,7 @@ use Rattle.characters.specs.Characters.{alnum, hyphen, asciiSet, hiragana, kata
 use Rattle.rules.specs.Permits.{Laws, labelChar, isEmpty}
 use Rattle.rules.specs.Prefectures.{prefectures}
 use Rattle.rules.specs.Editions.{today, todayWith}
-use Rattle.rules.specs.Hopeful.{settled, Hopes}
+use Rattle.rules.specs.Hopeful.{settled, HopeLaws}
 
 pub ninety-four : length prefectures ≡ 94
 unfolding prefectures
@@ -58,9 +58,9 @@ base-japanese : (b m : ℕ) → (composed b m ≡ 0 → ⊥) → japanese b ≡ 
 unfolding voiced repeats halfVoiced allOf anyOf elem within hiragana katakana signs japaneseBy japanese
 base-japanese b m n = of-base japanese b m refl refl refl refl n
 
-pub today-hopes : Hopes today
+pub today-hope-laws : HopeLaws today
 unfolding today anyOf elem within hiragana katakana signs japaneseBy japanese
-today-hopes = record {
+today-hope-laws = record {
   laws = today-laws;
   middle-settled = all-settled;
   tried = refl;

@@ -1,5 +1,5 @@
--- Whether a text may yet become a name: what is meant, and how it is found. The two are the same (proofs/Hopeful). Names that are reserved
--- or taken are not asked about, as they are not by the rules.
+-- Whether a text may yet become a name by the rules of document 01 (specs/Rules): what is meant, and how it is found. The two are the
+-- same (proofs/Hopeful). Reserved and taken names are not asked about: document 01, 'The work and its edges', leaves them outside.
 use mathlib.Core.Bool.{Bool, true, false, not, _&&_, _||_}
 use mathlib.Core.List.{List, [], _∷_, _++_}
 use mathlib.Core.Path.{_≡_}
@@ -56,9 +56,10 @@ hopeful P text =
 unfoldable pub settled : ℕ → Bool
 settled c = asciiSet c || within 0x4E00 0x9FA0 c
 
-pub record Hopes (P : Permits) : Type 0 where
+pub record HopeLaws (P : Permits) : Type 0 where
   pub laws : Laws P
+  -- each prefecture label is of such characters
   pub middle-settled : allOf (allOf settled) (P .middles) ≡ true
-  -- the hiragana that is tried, and whatever a mark may follow, are Japanese
+  -- the hiragana that is tried, and whatever a mark joins, are Japanese
   pub tried : P .japanese 0x3042 ≡ true
   pub bases : (b m : ℕ) → (composed b m ≡ 0 → ⊥) → P .japanese b ≡ true

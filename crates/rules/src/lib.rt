@@ -1,5 +1,6 @@
 // The rules of a name, as definitions and theorems: the registry's grammar, document 01's ordered table of refusals, the
-// second reader of labels, and that the three agree; and which texts may yet become a name (specs/Hopeful). Every call of the product is a thin layer over `rules` (specs/Rules).
+// second reader of labels, and that the three agree; and which texts may yet become a name. Every call that judges a name is a thin
+// layer over `rules` (specs/Rules), and `may_become` over `hopeful` (specs/Hopeful).
 // It has no call of its own: only the types that the definitions and the calls share.
 
 // General-use or prefecture with number 0, and none otherwise.

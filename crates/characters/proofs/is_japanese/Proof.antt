@@ -1,4 +1,4 @@
--- `is_japanese` meets its contract: below 3005 there is none, and what is neither kana nor kanji is a sign or not.
+-- `is_japanese` meets its contract: below 3003 there is none, and what is neither kana nor kanji is a sign or not.
 -- Assumes nothing.
 use mathlib.Core.Path.{sym}
 use Rattle.characters.proofs.Bounds.{with-below}
