@@ -119,12 +119,10 @@ module _ (P : Permits) (stretch : (c : ℕ) → P .japanese c ≡ true → withi
 
   -- so of no text does the call answer 14
   module _ (short : allOf (λ (l : List ℕ). leb (length l) 15) (P .middles) ≡ true) (text : List ℕ) where
-    not-14 : (n : ℕ) → not (eqb n 14) ≡ true → n ≡ 14 → ⊥
-    not-14 n e p = eqb-false n 14 (not-true (eqb n 14) e) p
-
-    text-not-14 : not (eqb (first (textRows P text) .number) 14) ≡ true
+    -- none of 2 to 12 is 14
+    text-not-14 : eqb (first (textRows P text) .number) 14 ≡ false
     unfolding textRows nameRows labelRows allOf
-    text-not-14 = numbered (λ (n : ℕ). not (eqb n 14)) refl (textRows P text) refl
+    text-not-14 = not-true _ (numbered (λ (n : ℕ). not (eqb n 14)) refl (textRows P text) refl)
 
     row-never : (room : ℕ) → first (asciiRows P text room) .number ≡ 14 → ⊥
     unfolding asciiRows rules verdict
@@ -141,7 +139,7 @@ module _ (P : Permits) (stretch : (c : ℕ) → P .japanese c ≡ true → withi
         go false p false q =
             let k =
             passed-over 1 (ltb room 192) 0 (textRows P text ++ last) p ∙ refused-before (textRows P text) last (eqb-false _ 0 q) in
-            not-14 _ text-not-14 (sym (ap (λ (a : Answer). a .number) k) ∙ e)
+            eqb-false _ 14 text-not-14 (sym (ap (λ (a : Answer). a .number) k) ∙ e)
 
     pub never-14 : (before after : List ℕ) (r : Checked) → AsciiForms P text before after r → r .number ≡ 14 → ⊥
     unfolding checked verdict

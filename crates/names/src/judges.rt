@@ -1,4 +1,5 @@
-// The judge: what the rules say of a text, with its normal form. The check and the whole ASCII form ask it, and so does the live check.
+// The judge: what the rules say of a text, with its normal form. The check asks it, the live check, and the whole ASCII form of all but the
+// usual name.
 use crate::ACCEPTED;
 use crate::Checked;
 use crate::EMPTY_LABEL;
