@@ -10,9 +10,8 @@ use lib.Dec.{eqb, ltb}
 use lib.ListN.{length, length-append}
 use borrow.Author.Tests.{eqb-true, not-false}
 use Rattle.lists.specs.Tests.{pick, allOf, anyOf}
-use Rattle.lists.specs.Rows.{Row, first}
+use Rattle.lists.specs.Rows.{Row, first, Clear}
 use Rattle.lists.proofs.Laws.{both, neither}
-use Rattle.lists.proofs.Tables.{Clear}
 use Rattle.normal.specs.Normal.{normalForm}
 use Rattle.rules.specs.Labels.{labels, join}
 use Rattle.rules.specs.Permits.{Permits}

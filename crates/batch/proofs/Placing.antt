@@ -11,9 +11,9 @@ use lib.Seq.{drop-at, drop-drop, drop-append-le, length-take-le}
 use borrow.Author.Tests.{eq-eqb, ne-eqb}
 use Rattle.lists.specs.Tests.{pick, allOf}
 use Rattle.lists.specs.Front.{written, Puts}
-use Rattle.lists.specs.Rows.{Answer, first, given}
+use Rattle.lists.specs.Rows.{Answer, first, given, Clear}
 use Rattle.lists.proofs.Pieces.{then}
-use Rattle.lists.proofs.Tables.{Clear, refusing, accepted-clear, clear, given-all, given-none}
+use Rattle.lists.proofs.Tables.{refusing, accepted-clear, clear, given-all, given-none}
 use Rattle.normal.specs.Normal.{normalForm}
 use Rattle.rules.specs.Labels.{labels}
 use Rattle.rules.specs.Permits.{Permits}

@@ -1,5 +1,5 @@
 // The kanji as one bit for each code point from 4E00 to 9FA0, 32 to a word, the lowest bit first. Made by tables/make.
-pub const KANJI: [u32; 654] = [
+pub(crate) const KANJI: [u32; 654] = [
     0x43F36F8B,
     0x9B462442,
     0xE3E0E82C,

@@ -1,15 +1,17 @@
 // Which code point is what: Japanese or not, what replaces it, and what a base and a mark become.
 // Each call takes any 32-bit number and any lent table, and says all of its result. Its meaning is defined in specs/:
-// Characters, Replace, Compose. `KANJI` is public so that a program names it once and lends it.
+// Characters, Replace, Compose. A call `.._with` is lent the table of kanji, so that a program names that table once: `kanji_bits` gives it, and
+// says which it is.
 mod kanji;
 
-pub use kanji::KANJI;
+use kanji::KANJI;
 ghost use mathlib.Core.Path.{_≡_};
 ghost use Prim.Native.Nat.{_+_, _<_};
 ghost use lib.Dec.{ltb};
 ghost use lib.ListN.{getD};
 ghost use Rattle.lists.specs.Tests.{pick, within, elem};
 ghost use Rattle.characters.specs.Characters.{alnum, asciiSet, signs, japanese, bitSet, kanjiWith, kanaOrKanjiWith, japaneseWith};
+ghost use Rattle.characters.specs.KanjiBits.{kanjiBits};
 ghost use Rattle.characters.specs.Replace.{halfKana, classOf, replace};
 ghost use Rattle.characters.specs.Compose.{composed};
 
@@ -61,6 +63,13 @@ fn is_sign(c: u32) -> bool
     lists::holds(&SIGNS, c)
 }
 
+// The table of kanji to lend: a bit for each code point from 4E00 to 9FA0.
+pub fn kanji_bits() -> [u32; 654]
+    ensures { λ r. ⌜ r ≡ kanjiBits ⌝ }
+{
+    KANJI
+}
+
 fn bit(word: u32, k: u32) -> bool
     requires { ⌜ k < 32 ⌝ }
     ensures { λ r. ⌜ r ≡ bitSet word k ⌝ }
@@ -83,7 +92,7 @@ fn is_kanji(kanji: &[u32], c: u32) -> bool
 }
 
 // Hiragana, katakana or a kanji, by a lent table: a Japanese character that is no sign?
-pub fn is_kana_or_kanji(kanji: &[u32], c: u32) -> bool
+pub fn is_kana_or_kanji_with(kanji: &[u32], c: u32) -> bool
     ensures { λ r. ⌜ r ≡ kanaOrKanjiWith (now (kanji .entry)) c ⌝ }
 {
     if between(0x3041, 0x3093, c) {
@@ -96,23 +105,23 @@ pub fn is_kana_or_kanji(kanji: &[u32], c: u32) -> bool
 }
 
 // A Japanese character, by a lent table of kanji? Below 3003 there is none; the signs come last, being the rarest.
-pub fn is_japanese(kanji: &[u32], c: u32) -> bool
+pub fn is_japanese_with(kanji: &[u32], c: u32) -> bool
     ensures { λ r. ⌜ r ≡ japaneseWith (now (kanji .entry)) c ⌝ }
 {
     if c < 0x3003 {
         return false;
     }
-    if is_kana_or_kanji(kanji, c) {
+    if is_kana_or_kanji_with(kanji, c) {
         return true;
     }
     is_sign(c)
 }
 
-// The same by the table of this crate, for a single code point; who asks of many lends the table.
-pub fn japanese_at(c: u32) -> bool
+// The same by the kanji of this edition, for a single code point; who asks of many lends the table.
+pub fn is_japanese(c: u32) -> bool
     ensures { λ r. ⌜ r ≡ japanese c ⌝ }
 {
-    is_japanese(&KANJI, c)
+    is_japanese_with(&KANJI, c)
 }
 
 // The replacement class of a code point.

@@ -8,13 +8,8 @@ use native.Mathlib.Omega.{arith}
 use lib.Dec.{ltb}
 use borrow.Author.Tests.{eq-eqb, ne-eqb, ltb-true}
 use Rattle.lists.specs.Tests.{pick, allOf}
-use Rattle.lists.specs.Rows.{Row, row, Answer, accepted, first, given}
+use Rattle.lists.specs.Rows.{Row, row, Answer, accepted, first, Clear, given}
 use Rattle.lists.proofs.Laws.{both}
-
--- no row of the table applies
-abbrev pub Clear : List Row → Type 0
-Clear [] = Unit {0}
-Clear (r ∷ rs) = (r .applies ≡ false) × Clear rs
 
 -- a row that does not apply is passed over; the first that applies is the answer
 pub passed-over : (n : ℕ) (b : Bool) (p : ℕ) (rs : List Row) → b ≡ false → first (row n b p ∷ rs) ≡ first rs

@@ -1,6 +1,7 @@
 -- The numbers that a call may answer: a table of rows in the order of document 01, the first that applies is given.
-use mathlib.Core.Bool.{Bool}
+use mathlib.Core.Bool.{Bool, false}
 use mathlib.Core.List.{List, [], _∷_}
+use mathlib.Core.Path.{_≡_}
 use Prim.Native.Nat.{ℕ}
 use lib.Dec.{eqb}
 use Rattle.lists.specs.Tests.{pick}
@@ -26,6 +27,11 @@ accepted = record { number = 0; place = 0 }
 unfoldable pub first : List Row → Answer
 first [] = accepted
 first (r ∷ rs) = pick (r .applies) (record { number = r .number; place = r .place }) (first rs)
+
+-- no row of the table applies
+abbrev pub Clear : List Row → Type 0
+Clear [] = Unit {0}
+Clear (r ∷ rs) = (r .applies ≡ false) × Clear rs
 
 -- what stands at the buffer's start then: xs where accepted, nothing where refused
 unfoldable pub given : Answer → List ℕ → List ℕ

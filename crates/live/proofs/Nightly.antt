@@ -1,7 +1,7 @@
 -- What the live check shows after any code points is what the nightly rules say of them: the argument over any rules (Typing), at
--- the rules of a name.
+-- the rules of a name. So it shows what the nightly calls answer to that text, since with room these say what the rules say.
 -- Assumes nothing.
-use mathlib.Core.Path.{_≡_, ap, _∙_}
+use mathlib.Core.Path.{_≡_, sym, ap, _∙_}
 use mathlib.Core.List.{List}
 use Prim.Native.Nat.{ℕ, _≤_, _<_}
 use native.Mathlib.Omega.{arith}
@@ -9,11 +9,14 @@ use lib.ListN.{length}
 use borrow.Author.Tests.{lt-ltb, le-ltb, ne-eqb}
 use Rattle.lists.specs.Rows.{first}
 use Rattle.normal.specs.Normal.{normalForm}
-use Rattle.rules.specs.Permits.{Permits}
+use Rattle.rules.specs.Permits.{Permits, Laws}
 use Rattle.rules.specs.Rules.{textRows, verdict, rules}
-use Rattle.names.specs.Calls.{shown, padded, judged}
+use Rattle.rules.specs.declared.Verdict.{Verdict}
+use Rattle.names.specs.Calls.{shown, padded, judged, Checks, AsciiForms}
+use Rattle.names.specs.declared.Checked.{Checked}
 use Rattle.names.specs.declared.Judged.{Judged}
-use Rattle.live.specs.Live.{fresh, typed, tooLong, looked}
+use Rattle.names.proofs.Demands.{said, check-says, ascii-says}
+use Rattle.live.specs.Live.{fresh, typed, tooLong, looked, Agrees}
 use Rattle.live.proofs.Typing.{live-is}
 
 module _ (P : Permits) where
@@ -43,3 +46,21 @@ module _ (P : Permits) where
     pub same-form : length cs ≤ 256 → looked P (typed fresh cs) .form ≡ padded (normalForm cs)
     unfolding judged shown
     same-form h = ap (λ (j : Judged). j .form) (live-is-nightly cs) ∙ rw (le-ltb 256 (length cs) h)
+
+-- ---- the look and the nightly calls
+
+module _ (P : Permits) (cs : List ℕ) {j : Judged} {r : Checked} (look : j ≡ looked P (typed fresh cs)) where
+  agrees : said r ≡ rules P cs → Agrees j r
+  agrees e = record {
+    number = ap (λ (x : Judged). x .number) look ∙ same-number P cs ∙ sym (ap (λ (v : Verdict). v .number) e);
+    place = ap (λ (x : Judged). x .place) look ∙ same-place P cs ∙ sym (ap (λ (v : Verdict). v .place) e);
+    class = ap (λ (x : Judged). x .class) look ∙ same-class P cs ∙ sym (ap (λ (v : Verdict). v .class) e);
+  }
+
+  -- the look after any code points and the check of that text say the same
+  pub look-and-check : {before after : List ℕ} → Checks P cs before after r → 256 ≤ length before → Agrees j r
+  look-and-check c room = agrees (check-says P c room)
+
+  -- and the call for its ASCII form
+  pub look-and-ascii : Laws P → {before after : List ℕ} → AsciiForms P cs before after r → 192 ≤ length before → Agrees j r
+  look-and-ascii L a room = agrees (ascii-says P L a room)

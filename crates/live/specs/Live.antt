@@ -2,11 +2,13 @@
 -- become a name, of any state.
 use mathlib.Core.Bool.{Bool, false}
 use mathlib.Core.List.{List, [], _∷_}
+use mathlib.Core.Path.{_≡_}
 use Prim.Native.Nat.{ℕ, _+_}
 use lib.Dec.{ltb}
 use lib.ListN.{take, set, replicate}
 use Rattle.lists.specs.Tests.{pick}
 use Rattle.names.specs.Calls.{judged}
+use Rattle.names.specs.declared.Checked.{Checked}
 use Rattle.names.specs.declared.Judged.{Judged}
 use Rattle.rules.specs.Permits.{Permits}
 use Rattle.rules.specs.Hopeful.{hopeful}
@@ -39,6 +41,12 @@ tooLong = record { number = 3; place = 256; class = None; form = replicate 256 0
 
 unfoldable pub looked : Permits → Live → Judged
 looked P l = lookedBy (judged P) tooLong l
+
+-- a look and a nightly answer of the same number, place and class
+pub record Agrees (j : Judged) (r : Checked) : Type 0 where
+  pub number : j .number ≡ r .number
+  pub place : j .place ≡ r .place
+  pub class : j .class ≡ r .class
 
 -- whether what was typed may yet become a name; past 256 it may not
 unfoldable pub hoped : Permits → Live → Bool

@@ -64,7 +64,7 @@ impl Live {
     pub fn look(self) -> names::Judged
         ensures { λ r. ⌜ r ≡ looked today self ⌝ }
     {
-        let kanji = characters::KANJI;
+        let kanji = characters::kanji_bits();
         self.look_with(&kanji)
     }
 
@@ -83,7 +83,7 @@ impl Live {
     pub fn may_become(self) -> bool
         ensures { λ r. ⌜ r ≡ hoped today self ⌝ }
     {
-        let kanji = characters::KANJI;
+        let kanji = characters::kanji_bits();
         self.may_become_with(&kanji)
     }
 }

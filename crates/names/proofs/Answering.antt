@@ -12,9 +12,9 @@ use lib.Seq.{take-all}
 use borrow.Author.Tests.{ne-eqb, lt-ltb, le-ltb, ltb-false}
 use Rattle.lists.specs.Tests.{allOf, anyOf}
 use Rattle.lists.specs.Front.{written}
-use Rattle.lists.specs.Rows.{Row, row, Answer, first, given}
+use Rattle.lists.specs.Rows.{Row, row, Answer, first, given, Clear}
 use Rattle.lists.proofs.Fronts.{untouched}
-use Rattle.lists.proofs.Tables.{Clear, clear, clear-before, hit, passed-over, refusing, accepted-clear, given-none}
+use Rattle.lists.proofs.Tables.{clear, clear-before, hit, passed-over, refusing, accepted-clear, given-none}
 use Rattle.normal.specs.Normal.{normalForm}
 use Rattle.normal.proofs.Laws.{no-longer}
 use Rattle.rules.specs.Labels.{labels}

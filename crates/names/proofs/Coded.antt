@@ -12,7 +12,7 @@ use lib.ListN.{length}
 use borrow.Author.Tests.{eqb-true, eqb-false, ltb-false, le-leb, lt-ltb, le-ltb, not-true}
 use Rattle.lists.specs.Tests.{within, allOf, anyOf}
 use Rattle.lists.specs.Front.{written}
-use Rattle.lists.specs.Rows.{Row, row, Answer, accepted, first, given}
+use Rattle.lists.specs.Rows.{Row, row, Answer, first, given}
 use Rattle.lists.proofs.Laws.{or-left, or-right, either, inside, outside, in-range, all-weaker, all-none, any-weaker, any-some}
 use Rattle.lists.proofs.Tables.{clear, clear-before, hit, passed-over, numbered}
 use Rattle.characters.specs.Characters.{alnum, hyphen, asciiSet}
@@ -92,55 +92,51 @@ module _ (P : Permits) (stretch : (c : ℕ) → P .japanese c ≡ true → withi
   unfolding allOf labelChar asciiSet alnum within jp
   jp-chars = simp or-true
 
-  module _ (short : allOf (λ (l : List ℕ). leb (length l) 15) (P .middles) ≡ true) (text : List ℕ) (e : rules P text .number ≡ 0) where
-    pub no-14 : anyOf (uncoded P) (labels (normalForm text)) ≡ false
+  module _ (short : allOf (λ (l : List ℕ). leb (length l) 15) (P .middles) ≡ true) (text : List ℕ) where
+    pub no-14 : rules P text .number ≡ 0 → anyOf (uncoded P) (labels (normalForm text)) ≡ false
     unfolding rules verdict
-    no-14 =
+    no-14 e =
         all-none (λ l. not (uncoded P l)) (uncoded P) (λ l p. not-true (uncoded P l) p) (labels (normalForm text))
         (each-label P (λ l. not (uncoded P l)) (λ l a k. label-fine l a (λ q. rw q at (left-size P l k))) (λ l a m. label-fine l a (λ q. middle-length P short l m))
         (label-fine jp jp-chars (λ q. unfold jp in omega arith)) text (cleared P text e) .0)
 
-    -- the call for the ASCII form answers 0 where the buffer has room
-    pub always : (room : ℕ) → 192 ≤ room → first (asciiRows P text room) ≡ accepted
+    -- with room the call for the ASCII form says what the rules say: to an accepted name row 14 does not apply, and of another a row before it is given
+    pub ascii-first : (room : ℕ) → 192 ≤ room → first (asciiRows P text room) ≡ first (textRows P text)
     unfolding asciiRows rules verdict
-    always room h =
-        let last = row 14 (anyOf (uncoded P) (labels (normalForm text))) 0 ∷ [] in
-        passed-over 1 (ltb room 192) 0 (textRows P text ++ last) (le-ltb room 192 h)
-        ∙ clear-before (textRows P text) last (cleared P text e)
-        ∙ clear last (no-14, tt)
+    ascii-first room h = passed-over 1 (ltb room 192) 0 (textRows P text ++ last) (le-ltb room 192 h) ∙ go (eqb (first (textRows P text) .number) 0) refl
+      where
+        last : List Row
+        last = row 14 (anyOf (uncoded P) (labels (normalForm text))) 0 ∷ []
 
-    -- and writes the form
-    pub ascii-given : (before after : List ℕ) (r : Checked) → AsciiForms P text before after r → 192 ≤ length before
+        go : (z : Bool) → eqb (first (textRows P text) .number) 0 ≡ z → first (textRows P text ++ last) ≡ first (textRows P text)
+        go true q =
+            let e = eqb-true _ 0 q in
+            let c = cleared P text e in
+            clear-before (textRows P text) last c ∙ clear last (no-14 e, tt) ∙ sym (clear (textRows P text) c)
+        go false q = refused-before (textRows P text) last (eqb-false _ 0 q)
+
+    -- so of an accepted name it answers 0 and writes the form
+    pub ascii-given : rules P text .number ≡ 0 → (before after : List ℕ) (r : Checked) → AsciiForms P text before after r → 192 ≤ length before
         → (r .number ≡ 0) × (after ≡ written (asciiForm P (normalForm text)) before)
-    unfolding checked verdict given
-    ascii-given before after r a h =
-        let p = always (length before) h in
+    unfolding checked rules verdict given
+    ascii-given e before after r a h =
+        let p = ascii-first (length before) h ∙ clear (textRows P text) (cleared P text e) in
         (ap (λ (x : Checked). x .number) (a .result) ∙ rw p, a .buffer ∙ rw p)
 
-  -- so of no text does the call answer 14
-  module _ (short : allOf (λ (l : List ℕ). leb (length l) 15) (P .middles) ≡ true) (text : List ℕ) where
     -- none of 2 to 12 is 14
     text-not-14 : eqb (first (textRows P text) .number) 14 ≡ false
     unfolding textRows nameRows labelRows allOf
     text-not-14 = not-true _ (numbered (λ (n : ℕ). not (eqb n 14)) refl (textRows P text) refl)
 
     row-never : (room : ℕ) → first (asciiRows P text room) .number ≡ 14 → ⊥
-    unfolding asciiRows rules verdict
-    row-never room e = go (ltb room 192) refl (eqb (first (textRows P text) .number) 0) refl
+    unfolding asciiRows
+    row-never room e = go (ltb room 192) refl
       where
-        last : List Row
-        last = row 14 (anyOf (uncoded P) (labels (normalForm text))) 0 ∷ []
+        go : (n : Bool) → ltb room 192 ≡ n → ⊥
+        go true p = let k : first (asciiRows P text room) .number ≡ 1 = ap (λ (a : Answer). a .number) (hit 1 (ltb room 192) 0 _ p) in omega (arith, e)
+        go false p = eqb-false _ 14 text-not-14 (sym (ap (λ (a : Answer). a .number) (ascii-first room (ltb-false room 192 p))) ∙ e)
 
-        go : (n : Bool) → ltb room 192 ≡ n → (z : Bool) → eqb (first (textRows P text) .number) 0 ≡ z → ⊥
-        go true p z q = let k = ap (λ (a : Answer). a .number) (hit 1 (ltb room 192) 0 (textRows P text ++ last) p) in omega (arith, e)
-        go false p true q =
-            let k = ap (λ (a : Answer). a .number) (always short text (eqb-true _ 0 q) room (ltb-false room 192 p)) in
-            omega (arith, e)
-        go false p false q =
-            let k =
-            passed-over 1 (ltb room 192) 0 (textRows P text ++ last) p ∙ refused-before (textRows P text) last (eqb-false _ 0 q) in
-            eqb-false _ 14 text-not-14 (sym (ap (λ (a : Answer). a .number) k) ∙ e)
-
+    -- and of no text does it answer 14
     pub never-14 : (before after : List ℕ) (r : Checked) → AsciiForms P text before after r → r .number ≡ 14 → ⊥
     unfolding checked verdict
     never-14 before after r a e = row-never (length before) (sym (ap (λ (x : Checked). x .number) (a .result)) ∙ e)

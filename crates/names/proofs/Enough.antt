@@ -13,7 +13,7 @@ use borrow.Author.Tests.{ne-eqb, le-leb, not-true, not-false}
 use Rattle.lists.specs.Tests.{allOf, anyOf, same}
 use Rattle.lists.specs.Front.{written}
 use Rattle.lists.proofs.Laws.{both, or-right, clash, same-is}
-use Rattle.lists.proofs.Tables.{Clear}
+use Rattle.lists.specs.Rows.{Clear}
 use Rattle.normal.specs.Normal.{normalForm}
 use Rattle.rules.specs.Labels.{labels}
 use Rattle.rules.specs.Permits.{Permits, labelChar, middle}

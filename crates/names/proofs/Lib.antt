@@ -7,7 +7,7 @@ pub mod Answering
 pub mod Joining
 pub mod Enough
 pub mod Usual
-pub mod Lending
 pub mod Unique
 pub mod Coded
+pub mod Demands
 pub mod Hoping

@@ -15,7 +15,7 @@ use Rattle.lists.specs.Tests.{within, allOf, anyOf, same}
 use Rattle.lists.specs.Front.{written}
 use Rattle.lists.proofs.Laws.{either, both, or-left, or-right, clash, inside, outside, in-range, all-append, all-weaker, all-none, same-refl, same-is}
 use Rattle.lists.proofs.Pieces.{then}
-use Rattle.lists.proofs.Tables.{Clear}
+use Rattle.lists.specs.Rows.{Clear}
 use Rattle.characters.specs.Characters.{alnum, hyphen, asciiSet, hiragana, katakana, kanjiWith, kanaOrKanjiWith}
 use Rattle.characters.specs.Replace.{ranges, rangeIn, isHalf, replaceIn, replace}
 use Rattle.characters.proofs.Classes.{stays, ascii-stays}

@@ -11,7 +11,6 @@ use crate::labels::any_wide;
 use crate::labels::edge_and_length;
 use crate::labels::ends_in_jp;
 use crate::labels::label_end;
-use crate::tables::table;
 use rules::Class;
 ghost use mathlib.Core.Path.{_≡_};
 ghost use mathlib.Core.Bool.{true, not};
@@ -29,7 +28,7 @@ ghost use Rattle.names.specs.Calls.{asciiLabel, asciiForm, uncoded, Asci
 ghost use Rattle.names.specs.Steps.{octet, writable, Writable, Tries, TriesOne, PlainLabel, dotJp};
 
 // Whether the coder took what it was handed, and the place past what was put.
-pub struct Put {
+pub(crate) struct Put {
     pub coded: bool,
     pub at: usize,
 }
@@ -175,6 +174,6 @@ pub fn to_ascii_with(kanji: &[u32], text: &[u32], out: &mut [u8]) -> Checked
 pub fn to_ascii(text: &[u32], out: &mut [u8]) -> Checked
     ensures { λ r. ⌜ AsciiForms today (now (text .entry)) (now (out .entry)) (now (out .exit)) r ⌝ }
 {
-    let kanji = table();
+    let kanji = characters::kanji_bits();
     to_ascii_with(&kanji, text, out)
 }

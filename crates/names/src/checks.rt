@@ -3,7 +3,6 @@ use crate::ACCEPTED;
 use crate::Checked;
 use crate::NO_ROOM;
 use crate::judges::judge_into;
-use crate::tables::table;
 use rules::Class;
 ghost use mathlib.Core.Path.{_≡_};
 ghost use Rattle.rules.specs.Editions.{today, todayWith};
@@ -11,7 +10,7 @@ ghost use Rattle.names.specs.Calls.{Checks};
 ghost use Rattle.names.specs.Steps.{refusedCall};
 
 // A refusal: length 0, and nothing is written.
-pub fn refused(number: u8, place: usize) -> Checked
+pub(crate) fn refused(number: u8, place: usize) -> Checked
     ensures { λ r. ⌜ r ≡ refusedCall number place ⌝ }
 {
     Checked {
@@ -49,6 +48,6 @@ pub fn check_with(kanji: &[u32], text: &[u32], out: &mut [u32]) -> Checked
 pub fn check(text: &[u32], out: &mut [u32]) -> Checked
     ensures { λ r. ⌜ Checks today (now (text .entry)) (now (out .entry)) (now (out .exit)) r ⌝ }
 {
-    let kanji = table();
+    let kanji = characters::kanji_bits();
     check_with(&kanji, text, out)
 }

@@ -6,7 +6,6 @@ use crate::labels::label_end;
 use crate::labels::left_rule;
 use crate::middles::begins_prefecture;
 use crate::middles::is_prefecture;
-use crate::tables::table;
 ghost use mathlib.Core.Path.{_≡_};
 ghost use mathlib.Core.Bool.{true, false};
 ghost use mathlib.Core.List.{_∷_, [], _++_};
@@ -132,6 +131,6 @@ pub fn may_become_with(kanji: &[u32], text: &[u32]) -> bool
 pub fn may_become(text: &[u32]) -> bool
     ensures { λ r. ⌜ r ≡ hopeful today (now (text .entry)) ⌝ }
 {
-    let kanji = table();
+    let kanji = characters::kanji_bits();
     may_become_with(&kanji, text)
 }

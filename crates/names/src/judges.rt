@@ -13,7 +13,6 @@ use crate::labels::is_jp;
 use crate::labels::label_end;
 use crate::labels::left_rule;
 use crate::middles::is_prefecture;
-use crate::tables::table;
 use rules::Class;
 use rules::Verdict;
 ghost use mathlib.Core.Path.{_≡_};
@@ -176,6 +175,6 @@ pub fn judge_with(kanji: &[u32], text: &[u32]) -> Judged
 pub fn judge(text: &[u32]) -> Judged
     ensures { λ r. ⌜ r ≡ judged today (now (text .entry)) ⌝ }
 {
-    let kanji = table();
+    let kanji = characters::kanji_bits();
     judge_with(&kanji, text)
 }

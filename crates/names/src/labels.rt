@@ -17,14 +17,14 @@ ghost use Rattle.rules.specs.Editions.{todayWith};
 ghost use Rattle.rules.specs.Hopeful.{begins};
 ghost use Rattle.names.specs.Steps.{labelNumber, edgeNumber, wide, plain, endsInJp};
 
-pub const PERIOD: u32 = 0x2E;
+pub(crate) const PERIOD: u32 = 0x2E;
 
-pub const HYPHEN: u32 = 0x2D;
+pub(crate) const HYPHEN: u32 = 0x2D;
 
-pub const MIDDLE_DOT: u32 = 0x30FB;
+pub(crate) const MIDDLE_DOT: u32 = 0x30FB;
 
 // The index of the first period from `from` on, or the length.
-pub fn label_end(text: &[u32], from: usize) -> usize
+pub(crate) fn label_end(text: &[u32], from: usize) -> usize
     ensures { λ r. ⌜ r ≡ from + firstOf period (drop from (now (text .entry))) ⌝ }
 {
     let mut i = from;
@@ -38,13 +38,13 @@ pub fn label_end(text: &[u32], from: usize) -> usize
 }
 
 // May a label hold c? The ASCII set stands below 80, and no Japanese character does.
-pub fn in_label(kanji: &[u32], c: u32) -> bool
+pub(crate) fn in_label(kanji: &[u32], c: u32) -> bool
     ensures { λ r. ⌜ r ≡ labelChar (todayWith (now (kanji .entry))) c ⌝ }
 {
     if c < 0x80 {
         return characters::is_ascii(c);
     }
-    characters::is_japanese(kanji, c)
+    characters::is_japanese_with(kanji, c)
 }
 
 fn is_unfit(kanji: &[u32], c: u32) -> bool
@@ -58,7 +58,7 @@ fn is_unfit(kanji: &[u32], c: u32) -> bool
 }
 
 // The index of the first character that is neither period nor may stand in a label, or the length.
-pub fn first_unfit(kanji: &[u32], form: &[u32]) -> usize
+pub(crate) fn first_unfit(kanji: &[u32], form: &[u32]) -> usize
     ensures { λ r. ⌜ r ≡ firstOf (unfit (todayWith (now (kanji .entry)))) (now (form .entry)) ⌝ }
 {
     let mut i = 0;
@@ -86,7 +86,7 @@ pub(crate) fn any_wide(label: &[u32]) -> bool
 }
 
 // A Japanese character other than 3006, 30FC and 30FB?
-pub fn is_ordinary(kanji: &[u32], c: u32) -> bool
+pub(crate) fn is_ordinary(kanji: &[u32], c: u32) -> bool
     ensures { λ r. ⌜ r ≡ ordinary (todayWith (now (kanji .entry))) c ⌝ }
 {
     if c == 0x3006 {
@@ -98,7 +98,7 @@ pub fn is_ordinary(kanji: &[u32], c: u32) -> bool
     if c == MIDDLE_DOT {
         return false;
     }
-    characters::is_japanese(kanji, c)
+    characters::is_japanese_with(kanji, c)
 }
 
 fn any_ordinary(kanji: &[u32], label: &[u32]) -> bool
@@ -192,7 +192,7 @@ pub(crate) fn left_rule(kanji: &[u32], label: &[u32]) -> u8
 
 const JP: [u32; 2] = [0x6A, 0x70];
 
-pub fn is_jp(label: &[u32]) -> bool
+pub(crate) fn is_jp(label: &[u32]) -> bool
     ensures { λ r. ⌜ r ≡ same (now (label .entry)) jp ⌝ }
 {
     lists::same(label, &JP)
@@ -244,7 +244,7 @@ fn is_plain(kanji: &[u32], c: u32) -> bool
     if c < 0x3041 {
         return characters::is_ascii(c);
     }
-    characters::is_kana_or_kanji(kanji, c)
+    characters::is_kana_or_kanji_with(kanji, c)
 }
 
 // Is every character plain? Then the label is its own normal form, and each may stand there.

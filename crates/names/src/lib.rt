@@ -10,7 +10,6 @@ mod labels;
 mod middles;
 mod prefectures;
 mod readers;
-mod tables;
 
 pub use ascii::to_ascii;
 pub use ascii::to_ascii_with;

@@ -37,7 +37,7 @@ fn any_part(table: &[u32], starts: &[usize], label: &[u32], whole: bool) -> bool
     false
 }
 
-pub fn is_prefecture(label: &[u32]) -> bool
+pub(crate) fn is_prefecture(label: &[u32]) -> bool
     ensures { λ r. ⌜ r ≡ anyOf (same (now (label .entry))) prefectures ⌝ }
 {
     any_part(&LABELS, &STARTS, label, true)

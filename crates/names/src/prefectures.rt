@@ -1,5 +1,5 @@
 // The characters of the 94 prefecture labels of document 004, one after the other. Made by tables/make.
-pub const LABELS: [u32; 401] = [
+pub(crate) const LABELS: [u32; 401] = [
     0x68,
     0x6F,
     0x6B,
@@ -404,7 +404,7 @@ pub const LABELS: [u32; 401] = [
 ];
 
 // Where each starts, and where the last ends. Made by tables/make.
-pub const STARTS: [usize; 95] = [
+pub(crate) const STARTS: [usize; 95] = [
     0,
     8,
     14,

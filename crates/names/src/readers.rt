@@ -4,7 +4,6 @@ use crate::labels::HYPHEN;
 use crate::labels::MIDDLE_DOT;
 use crate::labels::in_label;
 use crate::labels::is_ordinary;
-use crate::tables::table;
 use rules::Seen;
 ghost use mathlib.Core.Path.{_≡_};
 ghost use mathlib.Core.Bool.{_||_};
@@ -37,7 +36,7 @@ fn noted(kanji: &[u32], s: Seen, x: u32) -> Seen
     requires { ⌜ s .count < 63 ⌝ }
     ensures { λ r. ⌜ r ≡ note (todayWith (now (kanji .entry))) s x ⌝ }
 {
-    let ja = either(s.ja, characters::is_japanese(kanji, x));
+    let ja = either(s.ja, characters::is_japanese_with(kanji, x));
     let dot = either(s.dot, x == MIDDLE_DOT);
     let ordinary = either(s.ordinary, is_ordinary(kanji, x));
     Seen {
@@ -138,6 +137,6 @@ pub fn reads_with(kanji: &[u32], label: &[u32]) -> bool
 pub fn reads(label: &[u32]) -> bool
     ensures { λ r. ⌜ r ≡ reader today (now (label .entry)) ⌝ }
 {
-    let kanji = table();
+    let kanji = characters::kanji_bits();
     reads_with(&kanji, label)
 }

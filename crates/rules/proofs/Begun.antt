@@ -15,12 +15,12 @@ use Rattle.characters.specs.Compose.{voiced, repeats, halfVoiced, composed}
 use Rattle.characters.proofs.Pairs.{of-base, composed-kana}
 use Rattle.rules.specs.Labels.{period, labels}
 use Rattle.rules.specs.Permits.{Permits, Laws, labelChar, middle}
-use Rattle.rules.specs.Rules.{middleDot, ordinary, jp}
+use Rattle.rules.specs.Rules.{middleDot, ordinary, jp, Sound}
 use Rattle.rules.specs.Grammar.{Derives, general, prefecture, listed}
 use Rattle.rules.specs.Hopeful.{begins, leftmost, grows, settled, HopeLaws}
 use Rattle.rules.specs.declared.Class.{Class}
 use Rattle.rules.proofs.Cuts.{labels-cut, labels-one}
-use Rattle.rules.proofs.Sound.{Sound, ascii-range, label-sound, sound-label}
+use Rattle.rules.proofs.Sound.{ascii-range, label-sound, sound-label}
 use Rattle.rules.proofs.Derived.{of-middle, no-period}
 use Rattle.rules.proofs.Growing.{endJp, dotJp, is-begins, clear-leftmost, one-more, exchanged}
 

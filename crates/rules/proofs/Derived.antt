@@ -11,9 +11,8 @@ use lib.Dec.{eqb, leb}
 use lib.ListN.{length, getD, length-append}
 use borrow.Author.Tests.{eqb-true, ltb-false, leb-true, not-true, not-false}
 use Rattle.lists.specs.Tests.{pick, within, allOf, anyOf}
-use Rattle.lists.specs.Rows.{Row}
+use Rattle.lists.specs.Rows.{Row, Clear}
 use Rattle.lists.proofs.Laws.{both, neither, or-right, refuted, any-append, all-none, in-lists, same-is, same-refl}
-use Rattle.lists.proofs.Tables.{Clear}
 use Rattle.characters.specs.Characters.{alnum, hyphen, asciiSet}
 use Rattle.rules.specs.Labels.{period, onto, labels, join}
 use Rattle.rules.specs.Permits.{Permits, Laws, labelChar, middle, isEmpty}

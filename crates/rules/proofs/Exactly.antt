@@ -11,14 +11,14 @@ use lib.Dec.{eqb}
 use lib.ListN.{length}
 use borrow.Author.Tests.{eqb-false, eqb-true, ne-eqb, ltb-false, le-ltb}
 use Rattle.lists.specs.Tests.{pick, allOf}
-use Rattle.lists.specs.Rows.{Answer}
-use Rattle.lists.proofs.Tables.{Clear, clear, refusing, accepted-clear}
+use Rattle.lists.specs.Rows.{Answer, Clear}
+use Rattle.lists.proofs.Tables.{clear, refusing, accepted-clear}
 use Rattle.normal.proofs.Laws.{not-twice}
 use Rattle.normal.specs.Normal.{normalForm, normalPlaced, replacedFrom, compose}
 use Rattle.rules.specs.Labels.{labels}
 use Rattle.rules.specs.Permits.{Permits, Laws}
-use Rattle.rules.specs.Rules.{labelRows, nameRows, textRows, classOf, verdict, rules, accepted}
-use Rattle.rules.specs.Grammar.{Derives}
+use Rattle.rules.specs.Rules.{labelRows, nameRows, textRows, classOf, verdict, rules, accepted, Formed}
+use Rattle.rules.specs.Grammar.{Derives, Granted}
 use Rattle.rules.specs.declared.Class.{Class}
 use Rattle.rules.specs.declared.Class.the-variants.{None, General, Prefecture}
 use Rattle.rules.specs.declared.Verdict.{Verdict}
@@ -26,11 +26,6 @@ use Rattle.rules.proofs.Cuts.{join-labels, labels-fit}
 use Rattle.rules.proofs.Derived.{clear-derives, named}
 
 -- ---- what is answered, for any edition
-
--- the class is none exactly where the number is not 0, and with 0 the place is 0
-pub record Formed (v : Verdict) : Type 0 where
-  pub class : (v .number ≡ 0) ↔ (v .class ≡ None → ⊥)
-  pub place : v .number ≡ 0 → v .place ≡ 0
 
 module _ (P : Permits) (text : List ℕ) where
   -- the class of the text, where it is accepted
@@ -83,12 +78,6 @@ not-both P text p q =
     omega arith
 
 -- ---- accepted exactly where derivable
-
--- what a text of class k must be
-pub record Granted (P : Permits) (k : Class) (text : List ℕ) : Type 0 where
-  pub some : 1 ≤ length text
-  pub few : length text ≤ 256
-  pub name : Derives P k (normalForm text)
 
 module _ (P : Permits) (L : Laws P) where
   accepted-granted : (text : List ℕ) (k : Class) → rules P text ≡ accepted k → Granted P k text

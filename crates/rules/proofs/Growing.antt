@@ -12,15 +12,15 @@ use lib.ListN.{length, take, drop, take-append-drop, length-append}
 use lib.Seq.{take-append-seam}
 use borrow.Author.Tests.{eqb-true, eq-eqb, ltb-false, le-ltb}
 use Rattle.lists.specs.Tests.{pick, within, allOf, anyOf, same}
-use Rattle.lists.specs.Rows.{Answer}
+use Rattle.lists.specs.Rows.{Answer, Clear}
 use Rattle.lists.proofs.Laws.{both, neither, or-left, or-right, refuted, clash, lt-or-le, all-append, any-append, any-weaker, same-is, same-refl}
-use Rattle.lists.proofs.Tables.{Clear, clear}
+use Rattle.lists.proofs.Tables.{clear}
 use Rattle.characters.specs.Characters.{alnum, hyphen, asciiSet}
 use Rattle.rules.specs.Permits.{Permits, Laws, labelChar, isEmpty}
-use Rattle.rules.specs.Rules.{middleDot, ordinary, isJapanese, beginsWithHyphen, endsWithHyphen, hyphenEdge, short, long, bareDot, labelRows}
+use Rattle.rules.specs.Rules.{middleDot, ordinary, isJapanese, beginsWithHyphen, endsWithHyphen, hyphenEdge, short, long, bareDot, labelRows, Sound}
 use Rattle.rules.specs.Hopeful.{begins, leftmost, tries}
 use Rattle.rules.proofs.Views.{and-false, Cut, cut, cut-at}
-use Rattle.rules.proofs.Sound.{Sound, ascii-not, no-hyphen, ends-snoc}
+use Rattle.rules.proofs.Sound.{ascii-not, no-hyphen, ends-snoc}
 use Rattle.rules.proofs.Steps.{label-clear}
 
 -- the two characters at the end of a derived name, and the three

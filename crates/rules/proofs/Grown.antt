@@ -14,12 +14,12 @@ use Rattle.characters.proofs.Classes.{stays, ascii-stays}
 use Rattle.normal.proofs.Unchanged.{unchanged, unchanged-by}
 use Rattle.rules.specs.Labels.{join}
 use Rattle.rules.specs.Permits.{Permits, Laws, labelChar, middle}
-use Rattle.rules.specs.Rules.{jp}
+use Rattle.rules.specs.Rules.{jp, Sound}
 use Rattle.rules.specs.Grammar.{Derives, general, prefecture, listed}
 use Rattle.rules.specs.Hopeful.{begins, leftmost, tries, grows, settled, HopeLaws}
 use Rattle.rules.specs.declared.Class.{Class}
 use Rattle.rules.specs.declared.Class.the-variants.{General, Prefecture}
-use Rattle.rules.proofs.Sound.{Sound, ascii-range, sound-label}
+use Rattle.rules.proofs.Sound.{ascii-range, sound-label}
 use Rattle.rules.proofs.Derived.{of-middle}
 use Rattle.rules.proofs.Growing.{endJp, dotJp, begins-is, one-of, leftmost-sound}
 

@@ -6,13 +6,12 @@ use mathlib.Core.List.{List}
 use mathlib.Core.Logic.{_↔_}
 use Prim.Native.Nat.{ℕ}
 use Rattle.normal.specs.Normal.{normalForm}
-use Rattle.rules.specs.Rules.{rules, accepted}
+use Rattle.rules.specs.Rules.{rules, accepted, Sound}
 use Rattle.rules.specs.Grammar.{Derives}
 use Rattle.rules.specs.Reader.{reader}
 use Rattle.rules.specs.Editions.{today}
 use Rattle.rules.specs.Hopeful.{MayBecome, hopeful}
 use Rattle.rules.specs.declared.Class.{Class}
-use Rattle.rules.proofs.Sound.{Sound}
 use Rattle.rules.proofs.ReaderAgrees.{reader-agrees}
 use Rattle.rules.proofs.Exactly.{accepted-derives}
 use Rattle.rules.proofs.Today.{today-laws, today-hope-laws}

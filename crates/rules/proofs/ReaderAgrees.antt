@@ -13,12 +13,12 @@ use Rattle.lists.specs.Tests.{pick, allOf, anyOf}
 use Rattle.lists.proofs.Laws.{both, neither}
 use Rattle.characters.specs.Characters.{hyphen}
 use Rattle.rules.specs.Permits.{Permits, Laws, labelChar, isEmpty}
-use Rattle.rules.specs.Rules.{middleDot, ordinary, isJapanese, beginsWithHyphen, endsWithHyphen, hyphenEdge, short, long, bareDot, labelRows}
+use Rattle.rules.specs.Rules.{middleDot, ordinary, isJapanese, beginsWithHyphen, endsWithHyphen, hyphenEdge, short, long, bareDot, labelRows, Sound}
 use Rattle.rules.specs.Grammar.{label}
 use Rattle.rules.specs.Reader.{nothing, note, skip, lengthFits, ending, afterCharacter, afterHyphen, reader}
 use Rattle.rules.specs.declared.Seen.{Seen}
 use Rattle.rules.proofs.Views.{or-false}
-use Rattle.rules.proofs.Sound.{Sound, ascii-not, ascii-no-dot, hyphen-ascii, ascii-label, label-sound, sound-label}
+use Rattle.rules.proofs.Sound.{ascii-not, ascii-no-dot, hyphen-ascii, ascii-label, label-sound, sound-label}
 
 -- all of a list noted
 unfoldable noteAll : Permits → Seen → List ℕ → Seen

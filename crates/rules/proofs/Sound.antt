@@ -11,19 +11,13 @@ use lib.ListN.{length}
 use borrow.Author.Tests.{eqb-true, ne-eqb, ltb-false, le-ltb, not-true}
 use Rattle.lists.specs.Tests.{within, allOf, anyOf}
 use Rattle.lists.proofs.Laws.{both, neither, or-left, or-right, refuted, clash, in-range, all-append, any-append, all-weaker, all-none}
-use Rattle.lists.proofs.Tables.{Clear}
+use Rattle.lists.specs.Rows.{Clear}
 use Rattle.characters.specs.Characters.{alnum, hyphen, asciiSet}
 use Rattle.rules.specs.Permits.{Permits, Laws, labelChar, isEmpty}
-use Rattle.rules.specs.Rules.{middleDot, ordinary, isJapanese, beginsWithHyphen, endsWithHyphen, hyphenEdge, short, long, bareDot, labelRows}
+use Rattle.rules.specs.Rules.{middleDot, ordinary, isJapanese, beginsWithHyphen, endsWithHyphen, hyphenEdge, short, long, bareDot, labelRows, Sound}
 use Rattle.rules.specs.Grammar as G
 use Rattle.rules.proofs.Views.{or-false, and-false, all-but, Cut, cut, cut-at, Ends, empty, single, pair, ends, all-ends, any-ends, length-ends}
 use Rattle.rules.proofs.Says.{star-all, all-star, alnum-says, ascii-says, dot-says, exception, exceptional, exceptional-says, ja-says, label-says, edgeChar, edge-says}
-
--- what document 01 asks of a leftmost label: not empty, only what a label may hold, and none of 7 to 10
-pub record Sound (P : Permits) (l : List ℕ) : Type 0 where
-  pub chars : allOf (labelChar P) l ≡ true
-  pub filled : isEmpty l ≡ false
-  pub clear : Clear (labelRows P 3 l 0)
 
 -- ---- characters
 

@@ -10,8 +10,8 @@ use lib.Dec.{eqb}
 use lib.ListN.{length, getD}
 use borrow.Author.Tests.{eq-eqb, ne-eqb, lt-ltb, le-ltb}
 use Rattle.lists.specs.Tests.{pick, allOf, anyOf, firstOf, same}
-use Rattle.lists.specs.Rows.{Row, row, Answer, first}
-use Rattle.lists.proofs.Tables.{Clear, clear, clear-before, hit, passed-over, refusing, accepted-clear}
+use Rattle.lists.specs.Rows.{Row, row, Answer, first, Clear}
+use Rattle.lists.proofs.Tables.{clear, clear-before, hit, passed-over, refusing, accepted-clear}
 use Rattle.characters.specs.Characters.{hyphen}
 use Rattle.normal.specs.Normal.{normalForm, places}
 use Rattle.rules.specs.Labels.{labels}

@@ -1,7 +1,7 @@
 -- The edition in force keeps the laws, since its Japanese characters stand from 3003 to 9FA0 and the 94 labels are short and made of what a
 -- label may hold; and the bits of the kanji lent as a table give the same edition, since they say which code points are kanji.
 -- Assumes nothing.
-use mathlib.Core.Path.{_≡_, refl, _∙_}
+use mathlib.Core.Path.{_≡_, refl, ap, subst, _∙_}
 use mathlib.Core.Bool.{true, not}
 use mathlib.Core.List.{List}
 use Prim.Native.Nat.{ℕ}
@@ -15,7 +15,7 @@ use Rattle.characters.specs.KanjiBits.{kanjiBits}
 use Rattle.characters.proofs.Bounds.{with-bounds}
 use Rattle.characters.proofs.Lent as Lent
 use Rattle.characters.specs.Characters.{alnum, hyphen, asciiSet, hiragana, katakana, signs, japaneseBy, japanese}
-use Rattle.rules.specs.Permits.{Laws, labelChar, isEmpty}
+use Rattle.rules.specs.Permits.{Laws, labelChar, isEmpty, Permits}
 use Rattle.rules.specs.Prefectures.{prefectures}
 use Rattle.rules.specs.Editions.{today, todayWith}
 use Rattle.rules.specs.Hopeful.{settled, HopeLaws}
@@ -72,6 +72,10 @@ today-hope-laws = record {
 pub lent : todayWith kanjiBits ≡ today
 unfolding today todayWith
 lent = λ i. record { japanese = λ c. Lent.lent c i; middles = prefectures; three = true }
+
+-- so what a call says for the table that it is lent, it says for the edition in force where that table has the bits of the kanji
+pub lending : (Q : Permits → Type 0) {table : List ℕ} → table ≡ kanjiBits → Q (todayWith table) → Q today
+lending Q e q = subst Q (ap todayWith e ∙ lent) q
 
 -- two of the laws hold whatever table is lent
 pub lent-stretch : (table : List ℕ) (c : ℕ) → todayWith table .japanese c ≡ true → within 0x3003 0x9FA0 c ≡ true

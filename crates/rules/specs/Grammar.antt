@@ -1,11 +1,12 @@
 -- The registry's grammar: document 004's ABNF, each rule an inductive type of its own under its name; a rule stands below those
--- it uses. It shares no test with the ordered rules (specs/Rules). Letters are in lower case, as the normal form has them: the
--- registry, like ABNF (RFC 5234), takes the two cases for one.
+-- it uses. With the ordered rules (specs/Rules) it shares the edition's two tables, the Japanese characters and the prefecture labels, and
+-- no test. Letters are in lower case, as the normal form has them: the registry, like ABNF (RFC 5234), takes the two cases for one.
 use mathlib.Core.Bool.{true}
 use mathlib.Core.List.{List, [], _∷_, _++_}
 use mathlib.Core.Path.{_≡_}
 use Prim.Native.Nat.{ℕ, _≤_}
 use lib.ListN.{length}
+use Rattle.normal.specs.Normal.{normalForm}
 use Rattle.rules.specs.Permits.{Permits, middle}
 use Rattle.rules.specs.declared.Class.{Class}
 use Rattle.rules.specs.declared.Class.the-variants.{General, Prefecture}
@@ -87,3 +88,10 @@ module _ (P : Permits) where
   pub data Derives : Class → List ℕ → Type 0 where
     general : {l : List ℕ} → label l → Derives General (l ++ 0x2E ∷ 0x6A ∷ 0x70 ∷ [])
     prefecture : {l m : List ℕ} → label l → prefecture-label m → Derives Prefecture (l ++ 0x2E ∷ (m ++ 0x2E ∷ 0x6A ∷ 0x70 ∷ []))
+
+-- what a text must be to be a name of class k: 1 to 256 code points, and its normal form derives as one. No derivable name is lost to
+-- the limit (proofs/Exactly)
+pub record Granted (P : Permits) (k : Class) (text : List ℕ) : Type 0 where
+  pub some : 1 ≤ length text
+  pub few : length text ≤ 256
+  pub name : Derives P k (normalForm text)

@@ -1,11 +1,13 @@
 -- The rules of a name: document 01's table, 'Numbers a call may answer', 2 to 12, a row each; the first that applies is given.
-use mathlib.Core.Bool.{Bool, false, not, _&&_, _||_}
+use mathlib.Core.Bool.{Bool, true, false, not, _&&_, _||_}
 use mathlib.Core.List.{List, [], _∷_, _++_}
+use mathlib.Core.Logic.{_↔_}
+use mathlib.Core.Path.{_≡_}
 use Prim.Native.Nat.{ℕ, _-_}
 use lib.Dec.{eqb, ltb}
 use lib.ListN.{length, getD}
-use Rattle.lists.specs.Tests.{pick, anyOf, firstOf, same}
-use Rattle.lists.specs.Rows.{Row, row, Answer, first}
+use Rattle.lists.specs.Tests.{pick, allOf, anyOf, firstOf, same}
+use Rattle.lists.specs.Rows.{Row, row, Answer, first, Clear}
 use Rattle.characters.specs.Characters.{hyphen}
 use Rattle.normal.specs.Normal.{normalForm, places}
 use Rattle.rules.specs.Labels.{period, labels}
@@ -66,6 +68,12 @@ labelRows P least l at =
     row 10 (bareDot P l) at ∷
     []
 
+-- what document 01 asks of a leftmost label: not empty, only what a label may hold, and none of 7 to 10
+pub record Sound (P : Permits) (l : List ℕ) : Type 0 where
+  pub chars : allOf (labelChar P) l ≡ true
+  pub filled : isEmpty l ≡ false
+  pub clear : Clear (labelRows P 3 l 0)
+
 -- ---- what is asked of a name
 
 unfoldable pub jp : List ℕ
@@ -107,3 +115,8 @@ rules P text = verdict (first (textRows P text)) (labels (normalForm text))
 -- accepted as a name of class k
 abbrev pub accepted : Class → Verdict
 accepted k = record { number = 0; place = 0; class = k }
+
+-- the class is none exactly where the number is not 0, and with 0 the place is 0
+pub record Formed (v : Verdict) : Type 0 where
+  pub class : (v .number ≡ 0) ↔ (v .class ≡ None → ⊥)
+  pub place : v .number ≡ 0 → v .place ≡ 0

@@ -1,27 +1,21 @@
--- `is_japanese` meets its contract: below 3003 there is none, and what is neither kana nor kanji is a sign or not.
+-- `is_japanese` meets its contract: `KANJI` is the table of the specification, and lent that table the kanji are those of the list.
 -- Assumes nothing.
-use mathlib.Core.Path.{sym}
-use Rattle.characters.proofs.Bounds.{with-below}
-use Rattle.characters.proofs.Stretches.{no-sign, signs-left}
+use mathlib.Core.Path.{_∙_}
+use Rattle.characters.specs.KanjiBits.{kanjiBits}
+use Rattle.characters.proofs.Lent.{lent}
 use borrow.Author.Needs.{needs}
 use Rattle.characters.proofs.is_japanese.Statement.{statement}
 use Rattle.characters.proofs.is_japanese.Tie as tie
 
+slice-aggregate-is-japanese-with : tie.Need-slice-aggregate-is-japanese-with
+slice-aggregate-is-japanese-with c = search needs
+
+is-japanese-with-requires : tie.Need-is-japanese-with-requires
+is-japanese-with-requires c κs = search needs
+
 returns : tie.Need-returns
-returns c = sym (with-below _ _ (c .if1 .taken))
-
-is-kana-or-kanji-requires : tie.Need-is-kana-or-kanji-requires
-is-kana-or-kanji-requires c κs = search needs
-
-returns-2 : tie.Need-returns-2
-returns-2 c = no-sign _ _ (c .before .is-kana-or-kanji .ensures) (c .if2 .taken)
-
-is-sign-requires : tie.Need-is-sign-requires
-is-sign-requires c κs = search needs
-
-returns-3 : tie.Need-returns-3
-returns-3 c = signs-left _ _ (c .before .before .is-kana-or-kanji .ensures) (c .before .if2 .left) (c .is-sign .ensures)
+unfolding kanjiBits
+returns c = c .is-japanese-with .ensures ∙ lent _
 
 pub is-japanese-spec : {M : Type 1} → statement M
-is-japanese-spec =
-    tie.close (tie.spec returns is-kana-or-kanji-requires returns-2 is-sign-requires returns-3)
+is-japanese-spec = tie.close (tie.spec slice-aggregate-is-japanese-with is-japanese-with-requires returns)

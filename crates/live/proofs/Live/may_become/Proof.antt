@@ -1,13 +1,15 @@
 -- `may_become` meets its contract: the table of kanji is lent, and lent the bits of its own kanji the edition is itself.
 -- Assumes nothing.
-use mathlib.Core.Path.{ap, _∙_}
+use mathlib.Core.Path.{_≡_}
 use borrow.Author.Needs.{needs}
-use Rattle.characters.specs.KanjiBits.{kanjiBits}
 use Rattle.rules.specs.Permits.{Permits}
-use Rattle.rules.proofs.Today.{lent}
+use Rattle.rules.proofs.Today.{lending}
 use Rattle.live.specs.Live.{hoped}
 use Rattle.live.proofs.Live.may_become.Statement.{statement}
 use Rattle.live.proofs.Live.may_become.Tie as tie
+
+kanji-bits-requires : tie.Need-kanji-bits-requires
+kanji-bits-requires c κs = search needs
 
 slice-aggregate-may-become-with : tie.Need-slice-aggregate-may-become-with
 slice-aggregate-may-become-with c = search needs
@@ -16,8 +18,7 @@ may-become-with-requires : tie.Need-may-become-with-requires
 may-become-with-requires c κs = search needs
 
 returns : tie.Need-returns
-unfolding kanjiBits
-returns c = c .may-become-with .ensures ∙ ap (λ (P : Permits). hoped P (c .before .before .args .self)) lent
+returns c = lending (λ (P : Permits). c .may-become-with .result ≡ hoped P (c .before .before .before .args .self)) (c .before .before .kanji-bits .ensures) (c .may-become-with .ensures)
 
 pub may-become-spec : {M : Type 1} → statement M
-may-become-spec = tie.close (tie.spec slice-aggregate-may-become-with may-become-with-requires returns)
+may-become-spec = tie.close (tie.spec kanji-bits-requires slice-aggregate-may-become-with may-become-with-requires returns)

@@ -2,13 +2,13 @@
 -- Assumes nothing.
 use Rattle.rules.specs.Permits.{Permits}
 use Rattle.names.specs.Calls.{Checks}
-use Rattle.names.proofs.Lending.{lending}
+use Rattle.rules.proofs.Today.{lending}
 use borrow.Author.Needs.{needs}
 use Rattle.names.proofs.checks.check.Statement.{statement}
 use Rattle.names.proofs.checks.check.Tie as tie
 
-table-requires : tie.Need-table-requires
-table-requires c κs = search needs
+kanji-bits-requires : tie.Need-kanji-bits-requires
+kanji-bits-requires c κs = search needs
 
 slice-aggregate-check-with : tie.Need-slice-aggregate-check-with
 slice-aggregate-check-with c = search needs
@@ -23,9 +23,9 @@ returns : tie.Need-returns
 returns c =
     let a = c .before .before .before .before .before .before .before .before .args in
     let r = c .before .before .check-with in
-    lending (λ (P : Permits). Checks P (a .text .now) (a .out .now) (r .last .1 .1 .0) (r .result)) (c .before .before .before .before .before .table .ensures) (r .ensures)
+    lending (λ (P : Permits). Checks P (a .text .now) (a .out .now) (r .last .1 .1 .0) (r .result)) (c .before .before .before .before .before .kanji-bits .ensures) (r .ensures)
 
 pub check-spec : {M : Type 1} → statement M
 check-spec =
     tie.close
-    (tie.spec table-requires slice-aggregate-check-with check-with-requires same-length returns)
+    (tie.spec kanji-bits-requires slice-aggregate-check-with check-with-requires same-length returns)

@@ -3,13 +3,13 @@
 use mathlib.Core.Path.{_≡_}
 use Rattle.rules.specs.Permits.{Permits}
 use Rattle.rules.specs.Hopeful.{hopeful}
-use Rattle.names.proofs.Lending.{lending}
+use Rattle.rules.proofs.Today.{lending}
 use borrow.Author.Needs.{needs}
 use Rattle.names.proofs.hopes.may_become.Statement.{statement}
 use Rattle.names.proofs.hopes.may_become.Tie as tie
 
-table-requires : tie.Need-table-requires
-table-requires c κs = search needs
+kanji-bits-requires : tie.Need-kanji-bits-requires
+kanji-bits-requires c κs = search needs
 
 slice-aggregate-may-become-with : tie.Need-slice-aggregate-may-become-with
 slice-aggregate-may-become-with c = search needs
@@ -18,9 +18,9 @@ may-become-with-requires : tie.Need-may-become-with-requires
 may-become-with-requires c κs = search needs
 
 returns : tie.Need-returns
-returns c = lending (λ (P : Permits). c .may-become-with .result ≡ hopeful P (c .before .before .before .before .args .text .now)) (c .before .before .table .ensures) (c .may-become-with .ensures)
+returns c = lending (λ (P : Permits). c .may-become-with .result ≡ hopeful P (c .before .before .before .before .args .text .now)) (c .before .before .kanji-bits .ensures) (c .may-become-with .ensures)
 
 pub may-become-spec : {M : Type 1} → statement M
 may-become-spec =
     tie.close
-    (tie.spec table-requires slice-aggregate-may-become-with may-become-with-requires returns)
+    (tie.spec kanji-bits-requires slice-aggregate-may-become-with may-become-with-requires returns)

@@ -3,13 +3,13 @@
 use mathlib.Core.Path.{_≡_}
 use Rattle.rules.specs.Permits.{Permits}
 use Rattle.names.specs.Calls.{judged}
-use Rattle.names.proofs.Lending.{lending}
+use Rattle.rules.proofs.Today.{lending}
 use borrow.Author.Needs.{needs}
 use Rattle.names.proofs.judges.judge.Statement.{statement}
 use Rattle.names.proofs.judges.judge.Tie as tie
 
-table-requires : tie.Need-table-requires
-table-requires c κs = search needs
+kanji-bits-requires : tie.Need-kanji-bits-requires
+kanji-bits-requires c κs = search needs
 
 slice-aggregate-judge-with : tie.Need-slice-aggregate-judge-with
 slice-aggregate-judge-with c = search needs
@@ -18,8 +18,8 @@ judge-with-requires : tie.Need-judge-with-requires
 judge-with-requires c κs = search needs
 
 returns : tie.Need-returns
-returns c = lending (λ (P : Permits). c .judge-with .result ≡ judged P (c .before .before .before .before .args .text .now)) (c .before .before .table .ensures) (c .judge-with .ensures)
+returns c = lending (λ (P : Permits). c .judge-with .result ≡ judged P (c .before .before .before .before .args .text .now)) (c .before .before .kanji-bits .ensures) (c .judge-with .ensures)
 
 pub judge-spec : {M : Type 1} → statement M
 judge-spec =
-    tie.close (tie.spec table-requires slice-aggregate-judge-with judge-with-requires returns)
+    tie.close (tie.spec kanji-bits-requires slice-aggregate-judge-with judge-with-requires returns)

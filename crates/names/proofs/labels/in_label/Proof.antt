@@ -11,11 +11,11 @@ is-ascii-requires c κs = search needs
 returns : tie.Need-returns
 returns c = in-ascii _ _ (c .before .if1 .taken) (c .is-ascii .ensures)
 
-is-japanese-requires : tie.Need-is-japanese-requires
-is-japanese-requires c κs = search needs
+is-japanese-with-requires : tie.Need-is-japanese-with-requires
+is-japanese-with-requires c κs = search needs
 
 returns-2 : tie.Need-returns-2
-returns-2 c = in-japanese _ _ (c .before .if1 .left) (c .is-japanese .ensures)
+returns-2 c = in-japanese _ _ (c .before .if1 .left) (c .is-japanese-with .ensures)
 
 pub in-label-spec : {M : Type 1} → statement M
-in-label-spec = tie.close (tie.spec is-ascii-requires returns is-japanese-requires returns-2)
+in-label-spec = tie.close (tie.spec is-ascii-requires returns is-japanese-with-requires returns-2)

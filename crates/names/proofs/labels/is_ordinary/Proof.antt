@@ -15,12 +15,12 @@ returns-2 c = prolonged _ _ (c .if2 .taken)
 returns-3 : tie.Need-returns-3
 returns-3 c = dotted _ _ (c .if3 .taken)
 
-is-japanese-requires : tie.Need-is-japanese-requires
-is-japanese-requires c κs = search needs
+is-japanese-with-requires : tie.Need-is-japanese-with-requires
+is-japanese-with-requires c κs = search needs
 
 returns-4 : tie.Need-returns-4
 unfolding todayWith
-returns-4 c = others _ _ (c .before .before .before .if1 .left) (c .before .before .if2 .left) (c .before .if3 .left) (c .is-japanese .ensures)
+returns-4 c = others _ _ (c .before .before .before .if1 .left) (c .before .before .if2 .left) (c .before .if3 .left) (c .is-japanese-with .ensures)
 
 pub is-ordinary-spec : {M : Type 1} → statement M
-is-ordinary-spec = tie.close (tie.spec returns returns-2 returns-3 is-japanese-requires returns-4)
+is-ordinary-spec = tie.close (tie.spec returns returns-2 returns-3 is-japanese-with-requires returns-4)

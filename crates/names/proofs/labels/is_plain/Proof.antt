@@ -11,11 +11,11 @@ is-ascii-requires c κs = search needs
 returns : tie.Need-returns
 returns c = plain-below _ _ (c .before .if1 .taken) (c .is-ascii .ensures)
 
-is-kana-or-kanji-requires : tie.Need-is-kana-or-kanji-requires
-is-kana-or-kanji-requires c κs = search needs
+is-kana-or-kanji-with-requires : tie.Need-is-kana-or-kanji-with-requires
+is-kana-or-kanji-with-requires c κs = search needs
 
 returns-2 : tie.Need-returns-2
-returns-2 c = plain-above _ _ (c .before .if1 .left) (c .is-kana-or-kanji .ensures)
+returns-2 c = plain-above _ _ (c .before .if1 .left) (c .is-kana-or-kanji-with .ensures)
 
 pub is-plain-spec : {M : Type 1} → statement M
-is-plain-spec = tie.close (tie.spec is-ascii-requires returns is-kana-or-kanji-requires returns-2)
+is-plain-spec = tie.close (tie.spec is-ascii-requires returns is-kana-or-kanji-with-requires returns-2)

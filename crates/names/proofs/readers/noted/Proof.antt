@@ -6,8 +6,8 @@ use borrow.Author.Needs.{needs}
 use Rattle.names.proofs.readers.noted.Statement.{statement}
 use Rattle.names.proofs.readers.noted.Tie as tie
 
-is-japanese-requires : tie.Need-is-japanese-requires
-is-japanese-requires c κs = search needs
+is-japanese-with-requires : tie.Need-is-japanese-with-requires
+is-japanese-with-requires c κs = search needs
 
 either-requires : tie.Need-either-requires
 either-requires c κs = search needs
@@ -26,13 +26,13 @@ add-t8 c = search needs
 
 returns : tie.Need-returns
 unfolding todayWith
-returns c = note-is _ _ _ (c .before .before .before .before .before .is-japanese .ensures) (c .before .before .before .before .either .ensures) (c .before .before .before .either2 .ensures) (c .before .before .is-ordinary .ensures) (c .before .either3 .ensures)
+returns c = note-is _ _ _ (c .before .before .before .before .before .is-japanese-with .ensures) (c .before .before .before .before .either .ensures) (c .before .before .before .either2 .ensures) (c .before .before .is-ordinary .ensures) (c .before .either3 .ensures)
 
 pub noted-spec : {M : Type 1} → statement M
 noted-spec =
     tie.close
     (tie.spec
-    is-japanese-requires
+    is-japanese-with-requires
     either-requires
     either-requires-2
     is-ordinary-requires

@@ -3,14 +3,14 @@
 use mathlib.Core.Path.{_≡_}
 use Rattle.rules.specs.Permits.{Permits}
 use Rattle.rules.specs.Reader.{reader}
-use Rattle.names.proofs.Lending.{lending}
+use Rattle.rules.proofs.Today.{lending}
 use borrow.Author.Needs.{needs}
 use Rattle.names.proofs.readers.reads.Statement.{statement}
 use Rattle.names.proofs.readers.reads.Tie as tie
 use Rattle.names.proofs.readers.reads.Reads as reads
 
-table-requires : tie.Need-table-requires
-table-requires c κs = search needs
+kanji-bits-requires : tie.Need-kanji-bits-requires
+kanji-bits-requires c κs = search needs
 
 slice-aggregate-reads-with : tie.Need-slice-aggregate-reads-with
 slice-aggregate-reads-with c = search needs
@@ -19,8 +19,8 @@ reads-with-requires : tie.Need-reads-with-requires
 reads-with-requires c κs = search needs
 
 returns : tie.Need-returns
-returns c = lending (λ (P : Permits). c .reads-with .result ≡ reader P (c .before .before .before .before .args .label .now)) (c .before .before .table .ensures) (c .reads-with .ensures)
+returns c = lending (λ (P : Permits). c .reads-with .result ≡ reader P (c .before .before .before .before .args .label .now)) (c .before .before .kanji-bits .ensures) (c .reads-with .ensures)
 
 pub reads-spec : {M : Type 1} → statement M
 reads-spec =
-    tie.close (tie.spec table-requires slice-aggregate-reads-with reads-with-requires returns)
+    tie.close (tie.spec kanji-bits-requires slice-aggregate-reads-with reads-with-requires returns)

@@ -1,10 +1,10 @@
--- `is_kana_or_kanji` meets its contract: the two kana are tested in turn, and what is neither is a kanji or not.
+-- `is_kana_or_kanji_with` meets its contract: the two kana are tested in turn, and what is neither is a kanji or not.
 -- Assumes nothing.
 use mathlib.Core.Path.{sym, _∙_}
 use Rattle.characters.specs.Characters.{hiragana, katakana, kanaOrKanjiWith}
 use borrow.Author.Needs.{needs}
-use Rattle.characters.proofs.is_kana_or_kanji.Statement.{statement}
-use Rattle.characters.proofs.is_kana_or_kanji.Tie as tie
+use Rattle.characters.proofs.is_kana_or_kanji_with.Statement.{statement}
+use Rattle.characters.proofs.is_kana_or_kanji_with.Tie as tie
 
 between-requires : tie.Need-between-requires
 between-requires c κs = search needs
@@ -31,7 +31,7 @@ returns-3 c = c .is-kanji .ensures
       sym (c .before .before .between2 .ensures) ∙ c .before .if2 .left,
     )
 
-pub is-kana-or-kanji-spec : {M : Type 1} → statement M
-is-kana-or-kanji-spec =
+pub is-kana-or-kanji-with-spec : {M : Type 1} → statement M
+is-kana-or-kanji-with-spec =
     tie.close
     (tie.spec between-requires returns between-requires-2 returns-2 is-kanji-requires returns-3)
