@@ -11,21 +11,17 @@ use lib.Dec.{eqb, leb, ltb}
 use lib.ListN.{length, getD}
 use borrow.Author.Tests.{le-leb, leb-true, ltb-false, eqb-true}
 use Rattle.lists.specs.Tests.{pick, allOf, firstOf}
-use Rattle.lists.specs.Rows.{Row, row, first}
+use Rattle.lists.specs.Rows.{Row, row, Answer, first}
 use Rattle.lists.proofs.Laws.{both, lt-or-le}
+use Rattle.lists.proofs.Tables.{numbered}
 use Rattle.characters.specs.Compose.{composed}
 use Rattle.normal.specs.Normal.{Placed, placed, replacedFrom, compose, normalPlaced, normalForm, places}
 use Rattle.rules.specs.Labels.{labels}
 use Rattle.rules.specs.Permits.{Permits, isEmpty}
 use Rattle.rules.specs.Rules.{unfit, labelRows, nameRows, textRows}
 use Rattle.names.specs.Calls.{asciiRows}
-use Rattle.batch.specs.Answer.{decimal}
+use Rattle.batch.specs.Answer.{decimal, reading}
 use Rattle.batch.proofs.Pieces.{one-digit, two-digits, three-digits}
-
--- what digits say, after v
-unfoldable pub reading : ℕ → List ℕ → ℕ
-reading v [] = v
-reading v (d ∷ ds) = reading (v * 10 + (d - 0x30)) ds
 
 pub said-whole : (n : ℕ) → n < 1000 → reading 0 (decimal n) ≡ n
 unfolding reading
@@ -115,3 +111,20 @@ place-bound P text room =
     (λ e. by-row 5 (not (eqb (length ls) 2 || (P .three && eqb (length ls) 3))) 0 _ (λ e. omega arith)
     (λ two. by-row 6 _ _ _ (λ e. omega (arith, first-at-most isEmpty ls, few (P .three) (length ls) two))
     (λ e. at-zero 7 _ _ (at-zero 8 _ _ (at-zero 9 _ _ (at-zero 10 _ _ (at-zero 11 _ _ (at-zero 12 _ _ (at-zero 14 _ _ none-left))))))))))))
+
+-- 14 is the largest, and 16 that of a bad line
+pub number-bound : (P : Permits) (text : List ℕ) (room : ℕ) → first (asciiRows P text room) .number ≤ 14
+unfolding asciiRows textRows nameRows labelRows allOf
+number-bound P text room = leb-true _ 14 (numbered (λ (n : ℕ). leb n 14) refl (asciiRows P text room) refl)
+
+-- ---- so the digits of an answer say its number and its place
+
+module _ (P : Permits) (text : List ℕ) where
+  abbrev answered : Answer
+  answered = first (asciiRows P text 192)
+
+  pub number-said : reading 0 (decimal (answered .number)) ≡ answered .number
+  number-said = said-whole (answered .number) (omega (arith, number-bound P text 192))
+
+  pub place-said : reading 0 (decimal (answered .place)) ≡ answered .place
+  place-said = said-whole (answered .place) (omega (arith, place-bound P text 192))

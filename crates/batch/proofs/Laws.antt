@@ -10,14 +10,14 @@ use lib.Dec.{leb}
 use lib.ListN.{length, take, drop, take-append-drop}
 use borrow.Author.Tests.{le-leb}
 use Rattle.lists.specs.Tests.{pick}
-use Rattle.rules.specs.Editions.{todayWith}
+use Rattle.rules.specs.Editions.{today}
 use Rattle.batch.specs.declared.stream.Fed.{Fed}
 use Rattle.batch.specs.declared.stream.Finished.{Finished}
 use Rattle.batch.specs.declared.stream.Line.{Line}
 use Rattle.batch.specs.Answer.{answerTo, badAnswer}
 use Rattle.batch.specs.Lines.{batch}
 use Rattle.batch.specs.Stream.{lf, fresh, pushed, after, most, closed, wrote, ended, usedFrom, used}
-use Rattle.batch.specs.Feed.{Feeds, Finishes}
+use Rattle.batch.specs.Feed.{Feeds, Finishes, Calls, begin, call}
 use Rattle.batch.proofs.Whole.{by, after-append, wrote-append, whole}
 use Rattle.batch.proofs.Lent.{at-front, stands-one}
 use Rattle.batch.proofs.Answering.{long-line}
@@ -65,14 +65,9 @@ module _ (answer : List ℕ → List ℕ) (bad : List ℕ) where
       (λ e. by (λ (y : Bool). 0 < pick y (suc (usedFrom answer bad fresh s r)) 1) (leb most r) (λ f. omega arith) (λ f. omega arith))
       (λ e. omega arith))
 
-  -- ---- a sequence of calls: each takes the line that the last one gave, any bytes and any buffer, and what it did not use comes again
+  -- ---- a sequence of calls
 
-  pub data Calls : List ℕ → List ℕ → Line → Type 0 where
-    begin : Calls [] [] fresh
-    call : {i w : List ℕ} {l : Line} {s before after′ : List ℕ} {r : Fed} → Calls i w l → Feeds answer bad l s before after′ r
-        → Calls (i ++ take (r .used) s) (w ++ take (r .wrote) after′) (r .line)
-
-  called : {i w : List ℕ} {l : Line} → Calls i w l → (w ≡ wrote answer bad fresh i) × (l ≡ after fresh i)
+  called : {i w : List ℕ} {l : Line} → Calls answer bad i w l → (w ≡ wrote answer bad fresh i) × (l ≡ after fresh i)
   unfolding wrote after
   called begin = (refl, refl)
   called (call {i} {w} {l} {s} {r = r} k f) =
@@ -82,7 +77,7 @@ module _ (answer : List ℕ → List ℕ) (bad : List ℕ) where
 
   -- THE THEOREM for the code: what was used by a sequence of calls, and then its end, wrote the batch of it
   pub calls-are-batch : ((l : List ℕ) → 1024 < length l → answer l ≡ bad)
-      → {i w : List ℕ} {l : Line} {before after′ : List ℕ} {r : Finished} → Calls i w l → Finishes answer bad l before after′ r → r .done ≡ true
+      → {i w : List ℕ} {l : Line} {before after′ : List ℕ} {r : Finished} → Calls answer bad i w l → Finishes answer bad l before after′ r → r .done ≡ true
       → w ++ take (r .wrote) after′ ≡ batch answer i
   calls-are-batch over {i} {w} {l} {before} {after′} {r} k f d =
       let h = called k in
@@ -94,8 +89,8 @@ module _ (answer : List ℕ → List ℕ) (bad : List ℕ) where
 pub again : (l : Line) (s : List ℕ) (u : ℕ) → after l s ≡ after (after l (take u s)) (drop u s)
 again l s u = ap (after l) (sym (take-append-drop u s)) ∙ after-append l (take u s) (drop u s)
 
--- and at the answers of the edition with this table of kanji
-pub batch-of : (table : List ℕ) {i w : List ℕ} {l : Line} {before after′ : List ℕ} {r : Finished} → Calls (answerTo (todayWith table)) badAnswer i w l
-    → Finishes (answerTo (todayWith table)) badAnswer l before after′ r → r .done ≡ true
-    → w ++ take (r .wrote) after′ ≡ batch (answerTo (todayWith table)) i
-batch-of table = calls-are-batch (answerTo (todayWith table)) badAnswer (long-line (todayWith table))
+-- and at the answers of the edition in force: what the calls wrote, with what the end wrote, is the batch of all that they used
+pub batch-today : {i w : List ℕ} {l : Line} {before after′ : List ℕ} {r : Finished} → Calls (answerTo today) badAnswer i w l
+    → Finishes (answerTo today) badAnswer l before after′ r → r .done ≡ true
+    → w ++ take (r .wrote) after′ ≡ batch (answerTo today) i
+batch-today = calls-are-batch (answerTo today) badAnswer (long-line today)

@@ -1,7 +1,7 @@
 -- The answer to a line, as bytes: document 01, 'The batch'. It depends on that line's bytes alone.
 use mathlib.Core.Bool.{Bool, not, _&&_, _||_}
 use mathlib.Core.List.{List, [], _∷_, _++_}
-use Prim.Native.Nat.{ℕ, zero, suc, _+_, _/_, _%_}
+use Prim.Native.Nat.{ℕ, zero, suc, _+_, _-_, _*_, _/_, _%_}
 use lib.Dec.{eqb, ltb}
 use lib.ListN.{length, take, drop}
 use Rattle.lists.specs.Tests.{pick, within, allOf, anyOf, firstOf}
@@ -55,6 +55,11 @@ decimalBy (suc f) n =
 
 unfoldable pub decimal : ℕ → List ℕ
 decimal n = decimalBy 3 n
+
+-- what digits say, after v: read so, the digits of an answer say its number and its place (proofs/Digits)
+unfoldable pub reading : ℕ → List ℕ → ℕ
+reading v [] = v
+reading v (d ∷ ds) = reading (v * 10 + (d - 0x30)) ds
 
 -- G, P or -
 unfoldable pub letter : Class → ℕ

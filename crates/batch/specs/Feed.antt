@@ -1,5 +1,5 @@
 -- What the calls that feed a stream say, for any answer to a line: each decides all of its result and every entry of the buffer.
-use mathlib.Core.List.{List, []}
+use mathlib.Core.List.{List, [], _++_}
 use mathlib.Core.Path.{_≡_}
 use Prim.Native.Nat.{ℕ, _-_, _≤_}
 use lib.Dec.{leb}
@@ -39,3 +39,10 @@ module _ (answer : List ℕ → List ℕ) (bad : List ℕ) where
   pub record Finishes (l : Line) (before after′ : List ℕ) (r : Finished) : Type 0 where
     pub done : r .done ≡ leb most (length before)
     pub text : Stands (pick (leb most (length before)) (ended answer bad l) []) before after′ (r .wrote)
+
+  -- a sequence of calls that used the bytes i, wrote w and carry the line l on: each takes the line that the last one gave, any bytes and any
+  -- buffer, and what it did not use comes again
+  pub data Calls : List ℕ → List ℕ → Line → Type 0 where
+    begin : Calls [] [] fresh
+    call : {i w : List ℕ} {l : Line} {s before after′ : List ℕ} {r : Fed} → Calls i w l → Feeds l s before after′ r
+        → Calls (i ++ take (r .used) s) (w ++ take (r .wrote) after′) (r .line)

@@ -196,8 +196,8 @@ fn put_answer(kanji: &[u32], line: &[u8], out: &mut [u8]) -> usize
     }
 }
 
-// The answer to a line, at the start of out. The table of kanji is lent.
-pub fn answer(kanji: &[u32], line: &[u8], out: &mut [u8]) -> Wrote
+// The answer to a line, at the start of out.
+pub fn answer_with(kanji: &[u32], line: &[u8], out: &mut [u8]) -> Wrote
     ensures { λ r. ⌜ Writes (answerTo (todayWith (now (kanji .entry))) (now (line .entry))) (now (out .entry)) (now (out .exit)) r ⌝ }
 {
     if out.len() < MOST {

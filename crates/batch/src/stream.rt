@@ -13,7 +13,7 @@ ghost use Rattle.batch.specs.Next.{LineAt};
 use crate::answer::MOST;
 use crate::answer::Next;
 use crate::answer::Wrote;
-use crate::answer::answer;
+use crate::answer::answer_with;
 use crate::answer::quick;
 use crate::fields::find;
 
@@ -40,7 +40,7 @@ pub struct Finished {
 }
 
 // Where the whole lines end, and how many bytes their answers have.
-pub struct Scanned {
+struct Scanned {
     pub at: usize,
     pub length: usize,
 }
@@ -89,10 +89,10 @@ fn close(kanji: &[u32], line: Line, out: &mut [u8]) -> Wrote
     let n = line.n;
     if n <= LINE {
         let whole: &[u8] = &line.held;
-        return answer(kanji, &whole[0..n], out);
+        return answer_with(kanji, &whole[0..n], out);
     }
     let long = [0u8; 1025];
-    answer(kanji, &long, out)
+    answer_with(kanji, &long, out)
 }
 
 // Answers the line that begins at `at`, where it ends in s.
@@ -112,7 +112,7 @@ fn next(kanji: &[u32], s: &[u8], at: usize, out: &mut [u8]) -> Next
             length: 0,
         };
     }
-    let w = answer(kanji, &s[at..e], out);
+    let w = answer_with(kanji, &s[at..e], out);
     Next {
         done: true,
         end: e,
@@ -175,7 +175,7 @@ fn feed_lines(kanji: &[u32], line: Line, chunk: &[u8], out: &mut [u8]) -> Fed
 }
 
 // Feeds a piece: answers each line that ends in it, while there is room, and carries on the rest. What it does not use is fed again.
-pub fn feed(kanji: &[u32], line: Line, chunk: &[u8], out: &mut [u8]) -> Fed
+pub fn feed_with(kanji: &[u32], line: Line, chunk: &[u8], out: &mut [u8]) -> Fed
     ensures { λ r. ⌜ Feeds (answerTo (todayWith (now (kanji .entry)))) badAnswer line (now (chunk .entry)) (now (out .entry)) (now (out .exit)) r ⌝ }
 {
     if out.len() < MOST {
@@ -207,7 +207,7 @@ pub fn feed(kanji: &[u32], line: Line, chunk: &[u8], out: &mut [u8]) -> Fed
 }
 
 // The end of the input: the answer to a last line that no LF ended. Where there is no room it is not done, and nothing is written.
-pub fn finish(kanji: &[u32], line: Line, out: &mut [u8]) -> Finished
+pub fn finish_with(kanji: &[u32], line: Line, out: &mut [u8]) -> Finished
     ensures { λ r. ⌜ Finishes (answerTo (todayWith (now (kanji .entry)))) badAnswer line (now (out .entry)) (now (out .exit)) r ⌝ }
 {
     if line.n == 0 {

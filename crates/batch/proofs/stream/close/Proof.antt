@@ -9,17 +9,17 @@ use borrow.Author.Needs.{needs}
 use Rattle.batch.proofs.stream.close.Statement.{statement}
 use Rattle.batch.proofs.stream.close.Tie as tie
 
-sub-answer : tie.Need-sub-answer
-sub-answer c = search needs
+sub-answer-with : tie.Need-sub-answer-with
+sub-answer-with c = search needs
 
-part-answer-start : tie.Need-part-answer-start
-part-answer-start c = search needs
+part-answer-with-start : tie.Need-part-answer-with-start
+part-answer-with-start c = search needs
 
-part-answer-end : tie.Need-part-answer-end
-part-answer-end c = search needs
+part-answer-with-end : tie.Need-part-answer-with-end
+part-answer-with-end c = search needs
 
-answer-requires : tie.Need-answer-requires
-answer-requires c κs = search needs
+answer-with-requires : tie.Need-answer-with-requires
+answer-with-requires c κs = search needs
 
 same-length : tie.Need-same-length
 same-length c = search needs
@@ -28,13 +28,13 @@ returns : tie.Need-returns
 returns c =
     let a = c .before .before .before .before .before .before .before .before .before .before .before .args in
     let P = todayWith (a .kanji .now) in
-    closes-short (answerTo P) badAnswer (long-line P) (a .t2) (omega arith) (c .before .before .answer .ensures)
+    closes-short (answerTo P) badAnswer (long-line P) (a .t2) (omega arith) (c .before .before .answer-with .ensures)
 
-slice-aggregate-answer : tie.Need-slice-aggregate-answer
-slice-aggregate-answer c = search needs
+slice-aggregate-answer-with : tie.Need-slice-aggregate-answer-with
+slice-aggregate-answer-with c = search needs
 
-answer-requires-2 : tie.Need-answer-requires-2
-answer-requires-2 c κs = search needs
+answer-with-requires-2 : tie.Need-answer-with-requires-2
+answer-with-requires-2 c κs = search needs
 
 same-length-2 : tie.Need-same-length-2
 same-length-2 c = search needs
@@ -43,19 +43,19 @@ returns-2 : tie.Need-returns-2
 returns-2 c =
     let a = c .before .before .before .before .before .before .before .before .args in
     let P = todayWith (a .kanji .now) in
-    closes-over (answerTo P) badAnswer (long-line P) (a .t2) (omega arith) (c .before .before .answer2 .ensures)
+    closes-over (answerTo P) badAnswer (long-line P) (a .t2) (omega arith) (c .before .before .answer-with2 .ensures)
 
 pub close-spec : {M : Type 1} → statement M
 close-spec =
     tie.close
     (tie.spec
-    sub-answer
-    part-answer-start
-    part-answer-end
-    answer-requires
+    sub-answer-with
+    part-answer-with-start
+    part-answer-with-end
+    answer-with-requires
     same-length
     returns
-    slice-aggregate-answer
-    answer-requires-2
+    slice-aggregate-answer-with
+    answer-with-requires-2
     same-length-2
     returns-2)

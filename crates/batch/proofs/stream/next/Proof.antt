@@ -25,17 +25,17 @@ returns-2 c =
     let other = c .before .before in
     next-none (c .before .find-lf .ensures) (c .if2 .taken) (other .before .before .before .quick .ensures .kept (other .if1 .left))
 
-sub-answer : tie.Need-sub-answer
-sub-answer c = search needs
+sub-answer-with : tie.Need-sub-answer-with
+sub-answer-with c = search needs
 
-part-answer-start : tie.Need-part-answer-start
-part-answer-start c = search needs
+part-answer-with-start : tie.Need-part-answer-with-start
+part-answer-with-start c = search needs
 
-part-answer-end : tie.Need-part-answer-end
-part-answer-end c = search needs
+part-answer-with-end : tie.Need-part-answer-with-end
+part-answer-with-end c = search needs
 
-answer-requires : tie.Need-answer-requires
-answer-requires c κs = search needs
+answer-with-requires : tie.Need-answer-with-requires
+answer-with-requires c κs = search needs
 
 same-length-3 : tie.Need-same-length-3
 same-length-3 c = search needs
@@ -47,7 +47,7 @@ returns-3 c =
     let other = ended .before .before in
     let quickly = other .before .before .before in
     next-slow (ended .before .find-lf .ensures) (ended .if2 .left) (quickly .before .before .before .before .before .pre .1)
-    (quickly .quick .ensures .kept (other .if1 .left)) (answered .answer .ensures)
+    (quickly .quick .ensures .kept (other .if1 .left)) (answered .answer-with .ensures)
 
 pub next-spec : {M : Type 1} → statement M
 next-spec =
@@ -59,9 +59,9 @@ next-spec =
     find-lf-requires
     same-length-2
     returns-2
-    sub-answer
-    part-answer-start
-    part-answer-end
-    answer-requires
+    sub-answer-with
+    part-answer-with-start
+    part-answer-with-end
+    answer-with-requires
     same-length-3
     returns-3)

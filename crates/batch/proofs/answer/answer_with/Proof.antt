@@ -1,9 +1,9 @@
--- `answer` meets its contract: without room nothing is done, with room what is put from 0 on is written at the start.
+-- `answer_with` meets its contract: without room nothing is done, with room what is put from 0 on is written at the start.
 -- Assumes nothing.
 use Rattle.batch.proofs.Answering.{no-room, in-room}
 use borrow.Author.Needs.{needs}
-use Rattle.batch.proofs.answer.answer.Statement.{statement}
-use Rattle.batch.proofs.answer.answer.Tie as tie
+use Rattle.batch.proofs.answer.answer_with.Statement.{statement}
+use Rattle.batch.proofs.answer.answer_with.Tie as tie
 
 returns : tie.Need-returns
 returns c = no-room _ _ (c .if1 .taken)
@@ -17,5 +17,5 @@ same-length c = search needs
 returns-2 : tie.Need-returns-2
 returns-2 c = in-room _ _ _ _ (c .before .before .before .before .if1 .left) (c .before .before .put-answer .ensures)
 
-pub answer-spec : {M : Type 1} → statement M
-answer-spec = tie.close (tie.spec returns put-answer-requires same-length returns-2)
+pub answer-with-spec : {M : Type 1} → statement M
+answer-with-spec = tie.close (tie.spec returns put-answer-requires same-length returns-2)

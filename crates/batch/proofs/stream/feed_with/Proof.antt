@@ -1,4 +1,4 @@
--- `feed` meets its contract: with no byte carried the piece begins with a line; otherwise its first line goes through the carried one,
+-- `feed_with` meets its contract: with no byte carried the piece begins with a line; otherwise its first line goes through the carried one,
 -- the lines after it are scanned, and the rest is carried on.
 -- Assumes nothing.
 use native.Mathlib.Omega.{arith}
@@ -6,8 +6,8 @@ use Rattle.batch.proofs.Lent.{fits}
 use Rattle.batch.proofs.Turns.{stands}
 use Rattle.batch.proofs.Feeding.{no-room, no-line, o-fits, o-back, feeds-rest}
 use borrow.Author.Needs.{needs}
-use Rattle.batch.proofs.stream.feed.Statement.{statement}
-use Rattle.batch.proofs.stream.feed.Tie as tie
+use Rattle.batch.proofs.stream.feed_with.Statement.{statement}
+use Rattle.batch.proofs.stream.feed_with.Tie as tie
 
 returns : tie.Need-returns
 returns c = no-room _ _ _ _ _ (c .if1 .taken)
@@ -125,8 +125,8 @@ returns-4 c =
     feeds-rest (start .args .line) (start .args .chunk .now) (roomy .if1 .left) (answered .close .kept .1 .1 .0) (ended .before .find-lf .ensures) (ended .if3 .left)
     (kept .carried2 .ensures) (answered .close .ensures) (scanned .scan .kept .1 .1 .0) (scanned .scan .ensures) (c .rest .ensures)
 
-pub feed-spec : {M : Type 1} → statement M
-feed-spec =
+pub feed-with-spec : {M : Type 1} → statement M
+feed-with-spec =
     tie.close
     (tie.spec
     returns
