@@ -4,10 +4,10 @@
 use mathlib.Core.Path.{_≡_, refl, sym, ap, _∙_}
 use mathlib.Core.Bool.{Bool, true}
 use mathlib.Core.List.{List, [], _∷_, _++_}
-use Prim.Native.Nat.{ℕ, suc, _-_, _≤_, _<_}
+use Prim.Native.Nat.{ℕ, suc, _-_, _*_, _≤_, _<_}
 use native.Mathlib.Omega.{arith}
 use lib.Dec.{leb}
-use lib.ListN.{length, take, drop, take-append-drop}
+use lib.ListN.{length, take, drop, take-append-drop, length-append}
 use borrow.Author.Tests.{le-leb}
 use Rattle.lists.specs.Tests.{pick}
 use Rattle.rules.specs.Editions.{today}
@@ -85,9 +85,28 @@ module _ (answer : List ℕ → List ℕ) (bad : List ℕ) where
       let t : take (r .wrote) after′ ≡ ended answer bad l = at-front (rw e at (f .text)) in
       rw (t, h .0, h .1) (sym (whole answer bad over i))
 
--- what is left of a piece is fed as a piece
+-- what is left of a piece is fed as a piece: the line that is carried on, and what is written
 pub again : (l : Line) (s : List ℕ) (u : ℕ) → after l s ≡ after (after l (take u s)) (drop u s)
 again l s u = ap (after l) (sym (take-append-drop u s)) ∙ after-append l (take u s) (drop u s)
+
+pub wrote-again : (answer : List ℕ → List ℕ) (bad : List ℕ) (l : Line) (s : List ℕ) (u : ℕ)
+    → wrote answer bad l s ≡ wrote answer bad l (take u s) ++ wrote answer bad (after l (take u s)) (drop u s)
+wrote-again answer bad l s u = ap (wrote answer bad l) (sym (take-append-drop u s)) ∙ wrote-append answer bad l (take u s) (drop u s)
+
+-- where no answer is longer than `most`, no piece writes more than that for each of its bytes
+module _ (answer : List ℕ → List ℕ) (bad : List ℕ) (short : (l : List ℕ) → length (answer l) ≤ most) (bad-short : length bad ≤ most) where
+  closed-few : (l : Line) → length (closed answer bad l) ≤ most
+  unfolding closed
+  closed-few l =
+      by (λ (x : Bool). length (pick x (answer (take (l .n) (l .held))) bad) ≤ most) (leb (l .n) 1024) (λ e. short (take (l .n) (l .held))) (λ e. bad-short)
+
+  pub wrote-few : (l : Line) (s : List ℕ) → length (wrote answer bad l s) ≤ most * length s
+  unfolding wrote
+  wrote-few l [] = omega arith
+  wrote-few l (b ∷ s) =
+      by (λ (x : Bool). length (pick x (closed answer bad l ++ wrote answer bad fresh s) (wrote answer bad (pushed l b) s)) ≤ most * suc (length s)) (lf b)
+      (λ e. omega (arith, length-append (closed answer bad l) (wrote answer bad fresh s), closed-few l, wrote-few fresh s))
+      (λ e. omega (arith, wrote-few (pushed l b) s))
 
 -- and at the answers of the edition in force: what the calls wrote, with what the end wrote, is the batch of all that they used
 pub batch-today : {i w : List ℕ} {l : Line} {before after′ : List ℕ} {r : Finished} → Calls (answerTo today) badAnswer i w l

@@ -12,11 +12,13 @@ use borrow.Author.Tests.{eqb-true, not-false}
 use Rattle.lists.specs.Tests.{pick, allOf, anyOf}
 use Rattle.lists.specs.Rows.{Row, first, Clear}
 use Rattle.lists.proofs.Laws.{both, neither}
+use Rattle.characters.specs.KanjiBits.{kanjiBits}
 use Rattle.normal.specs.Normal.{normalForm}
 use Rattle.rules.specs.Labels.{labels, join}
 use Rattle.rules.specs.Permits.{Permits}
 use Rattle.rules.specs.Rules.{textRows, verdict}
-use Rattle.rules.specs.Editions.{todayWith}
+use Rattle.rules.specs.Editions.{today, todayWith}
+use Rattle.rules.proofs.Today.{lending}
 use Rattle.rules.specs.declared.Class.{Class}
 use Rattle.rules.specs.declared.Class.the-variants.{None}
 use Rattle.rules.specs.declared.Verdict.{Verdict}
@@ -34,7 +36,7 @@ line-length : (id : List ℕ) (number place : ℕ) (class : Class) (form : List 
 unfolding answerLine
 line-length id number place class form = simp length-append (omega (arith, decimal-length number, decimal-length place))
 
-bad-length : length badAnswer ≤ 256
+pub bad-length : length badAnswer ≤ 256
 unfolding badAnswer
 bad-length = omega (arith, line-length (0x2D ∷ []) 16 0 None (0x2D ∷ []))
 
@@ -103,3 +105,7 @@ module _ (table : List ℕ) where
       go : (b : Bool) → badLine line ≡ b → length (pick b badAnswer (goodAnswer edition (idOf line) (decoded (nameOf line) .codes))) ≤ 256
       go true e = bad-length
       go false e = good-length (idOf line) (decoded (nameOf line) .codes) (id-length (idOf line) (good-id line e))
+
+-- at the edition in force
+pub longest-today : (line : List ℕ) → length (answerTo today line) ≤ 256
+longest-today line = lending (λ (P : Permits). length (answerTo P line) ≤ 256) {table = kanjiBits} refl (longest kanjiBits line)

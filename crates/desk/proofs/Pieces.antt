@@ -1,54 +1,101 @@
--- A piece that is fed to its end: each call uses some of what is left, and carries on the line that all before it makes.
+-- A piece that is fed to its end: each call uses some of what is left, carries on the line that all before it makes, and what it hands out,
+-- with what is still to come, is what the whole piece writes.
 -- Assumes nothing.
 use mathlib.Core.Path.{_≡_, refl, sym, ap, _∙_}
-use mathlib.Core.List.{List, _∷_}
-use Prim.Native.Nat.{ℕ, suc, _+_, _-_, _≤_, _<_}
+use mathlib.Core.List.{List, _∷_, _++_}
+use Prim.Native.Nat.{ℕ, suc, _+_, _-_, _*_, _≤_, _<_}
 use native.Mathlib.Omega.{arith}
-use lib.ListN.{length, take, drop, getD, length-drop, drop-of-length-le}
-use lib.Seq.{drop-cons, drop-drop}
+use lib.ListN.{length, take, drop, getD, length-drop, length-append, drop-of-length-le}
+use lib.Seq.{drop-cons, drop-drop, length-take-le}
+use borrow.Author.Tests.{le-leb}
+use Rattle.characters.specs.KanjiBits.{kanjiBits}
+use Rattle.rules.specs.Permits.{Permits}
+use Rattle.rules.specs.Editions.{today, todayWith}
+use Rattle.rules.proofs.Today.{lending}
 use Rattle.batch.specs.declared.stream.Fed.{Fed}
+use Rattle.batch.specs.declared.stream.Finished.{Finished}
 use Rattle.batch.specs.declared.stream.Line.{Line}
-use Rattle.batch.specs.Stream.{after, most, used}
-use Rattle.batch.specs.Feed.{Feeds}
-use Rattle.batch.proofs.Lent.{fits, tail-part}
-use Rattle.batch.proofs.Laws.{used-within, goes-on, again}
+use Rattle.batch.specs.Answer.{answerTo, badAnswer}
+use Rattle.batch.specs.Stream.{after, most, wrote, ended, used}
+use Rattle.batch.specs.Feed.{Feeds, Finishes}
+use Rattle.batch.proofs.Lent.{fits, head-part, tail-part}
+use Rattle.batch.proofs.Laws.{used-within, goes-on, again, wrote-again, wrote-few}
+use Rattle.batch.proofs.Longest.{bad-length, longest-today}
 
--- the piece is fed up to `at`, and l is carried on
-pub record Kept (piece out₀ out : List ℕ) (l₀ l : Line) (at : ℕ) : Type 0 where
+-- what the lines that end in a piece are answered, by the rules in force
+abbrev pub answered : Line → List ℕ → List ℕ
+answered l s = wrote (answerTo today) badAnswer l s
+
+-- no more than 256 bytes for each byte read
+few : (l : Line) (s : List ℕ) → length (answered l s) ≤ most * length s
+few = wrote-few (answerTo today) badAnswer longest-today bad-length
+
+-- the bytes handed out are as many as were asked for
+pub handed : (s : List ℕ) {n : ℕ} → n ≤ length s → length (take (n - 0) (drop 0 s)) ≡ n
+handed s {n} h = ap length (head-part s n) ∙ length-take-le n s h
+
+-- the piece is fed up to `at`, `count` bytes are handed out, and l is carried on
+pub record Kept (piece out₀ out : List ℕ) (l₀ l : Line) (at count : ℕ) : Type 0 where
   pub inside : at ≤ length piece
   pub room : most ≤ length out
   pub long : length out ≡ length out₀
   pub same : after l₀ piece ≡ after l (drop at piece)
+  pub all : length (answered l₀ piece) ≡ count + length (answered l (drop at piece))
 
-pub begins : (piece out : List ℕ) (l : Line) → most ≤ length out → Kept piece out out l l 0
-begins piece out l h = record { inside = omega arith; room = h; long = refl; same = refl }
+pub begins : (piece out : List ℕ) (l : Line) → most ≤ length out → Kept piece out out l l 0 0
+begins piece out l h = record { inside = omega arith; room = h; long = refl; same = refl; all = omega arith }
 
-module _ {answer : List ℕ → List ℕ} {bad piece out₀ out out′ : List ℕ} {l₀ l : Line} {at : ℕ} {r : Fed} (k : Kept piece out₀ out l₀ l at)
-    (h : at < length piece) (f : Feeds answer bad l (take (length piece - at) (drop at piece)) out out′ r) where
-  left : Feeds answer bad l (drop at piece) out out′ r
-  left = rw (tail-part piece at) at f
+module _ {table piece out₀ out out′ : List ℕ} {l₀ l : Line} {at count : ℕ} {r : Fed} (t : table ≡ kanjiBits) (k : Kept piece out₀ out l₀ l at count)
+    (h : at < length piece) (f : Feeds (answerTo (todayWith table)) badAnswer l (take (length piece - at) (drop at piece)) out out′ r) where
+  left : Feeds (answerTo today) badAnswer l (drop at piece) out out′ r
+  left = lending (λ (P : Permits). Feeds (answerTo P) badAnswer l (drop at piece) out out′ r) t (rw (tail-part piece at) at f)
 
   pub wrote-fits : r .wrote ≤ length out′
   wrote-fits = fits (left .text)
 
   pub used-fits : at + r .used ≤ length piece
-  used-fits = omega (arith, left .amount, used-within answer bad l (drop at piece) (length out), length-drop at piece)
+  used-fits = omega (arith, left .amount, used-within (answerTo today) badAnswer l (drop at piece) (length out), length-drop at piece)
 
   pub forward : 0 < r .used
   forward =
-      let z : 0 < used answer bad l (getD piece at 0 ∷ drop (suc at) piece) (length out) = goes-on answer bad l (getD piece at 0) (drop (suc at) piece) (k .room) in
-      omega (arith, left .amount, ap (λ (s : List ℕ). used answer bad l s (length out)) (drop-cons piece at 0 h))
+      let z : 0 < used (answerTo today) badAnswer l (getD piece at 0 ∷ drop (suc at) piece) (length out) = goes-on (answerTo today) badAnswer l (getD piece at 0) (drop (suc at) piece) (k .room) in
+      omega (arith, left .amount, ap (λ (s : List ℕ). used (answerTo today) badAnswer l s (length out)) (drop-cons piece at 0 h))
 
-  pub goes : length out′ ≡ length out → Kept piece out₀ out′ l₀ (r .line) (at + r .used)
-  goes e = record {
+  -- what is written now, and what the rest will be
+  parts : length (answered l (drop at piece)) ≡ r .wrote + length (answered (r .line) (drop (at + r .used) piece))
+  parts =
+      let s : List ℕ = drop at piece in
+      let a : answered l s ≡ answered l (take (r .used) s) ++ answered (after l (take (r .used) s)) (drop (r .used) s) = wrote-again (answerTo today) badAnswer l s (r .used) in
+      let n = left .text .count in
+      let m : answered (after l (take (r .used) s)) (drop (r .used) s) ≡ answered (r .line) (drop (at + r .used) piece) =
+      ap (λ (m : Line). answered m (drop (r .used) s)) (sym (left .next)) ∙ ap (answered (r .line)) (drop-drop (r .used) at piece) in
+      omega (arith, ap length a, length-append (answered l (take (r .used) s)) (answered (after l (take (r .used) s)) (drop (r .used) s)), ap length m, n)
+
+  pub count-fits : length piece ≤ 65536 → count + r .wrote ≤ 16777216
+  count-fits b = omega (arith, k .all, parts, few l₀ piece)
+
+  pub goes : {n : ℕ} → n ≡ r .wrote → length out′ ≡ length out → Kept piece out₀ out′ l₀ (r .line) (at + r .used) (count + n)
+  goes {n} q e = record {
     inside = used-fits;
     room = omega (arith, k .room);
     long = e ∙ k .long;
     same =
         k .same ∙ again l (drop at piece) (r .used) ∙ ap (λ (m : Line). after m (drop (r .used) (drop at piece))) (sym (left .next))
         ∙ ap (after (r .line)) (drop-drop (r .used) at piece);
+    all = omega (arith, k .all, parts);
   }
 
-pub ends : {piece out₀ out : List ℕ} {l₀ l : Line} {at : ℕ} → Kept piece out₀ out l₀ l at → length piece ≤ at → l ≡ after l₀ piece
-unfolding after
-ends {piece} {l = l} k h = sym (k .same ∙ ap (after l) (drop-of-length-le piece h))
+pub ends : {piece out₀ out : List ℕ} {l₀ l : Line} {at count : ℕ} → Kept piece out₀ out l₀ l at count → length piece ≤ at
+    → (l ≡ after l₀ piece) × (count ≡ length (answered l₀ piece))
+unfolding after wrote
+ends {piece} {l = l} {at = at} k h =
+    let z = drop-of-length-le piece h in
+    let n : length (answered l (drop at piece)) ≡ 0 = ap (λ (s : List ℕ). length (answered l s)) z in
+    (sym (k .same ∙ ap (after l) z), omega (arith, k .all))
+
+-- with room the end of the input writes the answer to the line that was carried
+pub at-end : {table before after′ : List ℕ} {l : Line} {r : Finished} → table ≡ kanjiBits → most ≤ length before
+    → Finishes (answerTo (todayWith table)) badAnswer l before after′ r → r .wrote ≡ length (ended (answerTo today) badAnswer l)
+at-end {before = before} {after′} {l} {r} t h f =
+    let g = lending (λ (P : Permits). Finishes (answerTo P) badAnswer l before after′ r) t f in
+    g .text .count ∙ rw (le-leb most (length before) h)

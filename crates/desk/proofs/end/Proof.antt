@@ -1,13 +1,15 @@
--- `end` meets its contract: what is written at the end stands in the buffer.
+-- `end` meets its contract: what the end of the input writes stands in the buffer, and all of it is handed out.
 -- Assumes nothing.
+use mathlib.Core.Path.{_∙_}
 use native.Mathlib.Omega.{arith}
 use Rattle.batch.proofs.Lent.{fits}
+use Rattle.desk.proofs.Pieces.{handed, at-end}
 use borrow.Author.Needs.{needs}
 use Rattle.desk.proofs.end.Statement.{statement}
 use Rattle.desk.proofs.end.Tie as tie
 
-finish-requires : tie.Need-finish-requires
-finish-requires c κs = search needs
+finish-with-requires : tie.Need-finish-with-requires
+finish-with-requires c κs = search needs
 
 sub-write : tie.Need-sub-write
 sub-write c = search needs
@@ -16,7 +18,7 @@ part-write-start : tie.Need-part-write-start
 part-write-start c = search needs
 
 part-write-end : tie.Need-part-write-end
-part-write-end c = omega (arith, fits (c .before .before .before .finish .ensures .text))
+part-write-end c = omega (arith, fits (c .before .before .before .finish-with .ensures .text))
 
 write-requires : tie.Need-write-requires
 write-requires c κs = search needs
@@ -25,13 +27,16 @@ same-length : tie.Need-same-length
 same-length c = search needs
 
 returns : tie.Need-returns
-returns c = search needs
+returns c =
+    let p = c .before .before .before .before .before .before .before .before .before .pre in
+    let f = c .before .before .before .before .before .finish-with .ensures in
+    record { handed = c .write .ensures ∙ handed _ (fits (f .text)) ∙ at-end (p .0) (p .1) f }
 
 pub end-spec : {M : Type 1} → statement M
 end-spec =
     tie.close
     (tie.spec
-    finish-requires
+    finish-with-requires
     sub-write
     part-write-start
     part-write-end

@@ -1,13 +1,19 @@
--- `run` meets its contract: each turn is one fewer, and the buffers keep their lengths.
+-- `run` meets its contract: each turn is one fewer, the buffers keep their lengths, and the end of the input is told before it is over.
 -- Assumes nothing.
-use mathlib.Core.Path.{_≡_}
+use mathlib.Core.Path.{_≡_, sym, _∙_}
+use mathlib.Core.Bool.{false≢true}
 use lib.ListN.{length}
+use Prim.Native.Nat.{_≤_}
+use Rattle.characters.specs.KanjiBits.{kanjiBits}
+use Rattle.batch.specs.Stream.{most}
 use borrow.Author.Needs.{needs}
+use borrow.Author.Tests.{not-true}
 use Rattle.desk.proofs.run.Statement.{statement}
 use Rattle.desk.proofs.run.Tie as tie
 
 abbrev Inv-loop : tie.InvT-loop
-Inv-loop kanji buf₀ out₀ line₀ turns₀ buf out line turns = (length buf ≡ length buf₀) × (length out ≡ length out₀)
+Inv-loop kanji buf₀ out₀ line₀ turns₀ buf out line turns =
+    (kanji ≡ kanjiBits) × (length buf ≤ 65536) × (most ≤ length out) × (length buf ≡ length buf₀) × (length out ≡ length out₀)
 
 abbrev μ-loop : tie.MeasureT-loop
 μ-loop kanji buf₀ out₀ line₀ turns₀ buf out line turns = turns
@@ -21,6 +27,9 @@ loop-holds c = search needs
 read-requires : tie.Need-read-requires Inv-loop μ-loop
 read-requires c κs = search needs
 
+stopped-requires : tie.Need-stopped-requires Inv-loop μ-loop
+stopped-requires c κs = search needs
+
 same-length : tie.Need-same-length Inv-loop μ-loop
 same-length c = search needs
 
@@ -28,7 +37,7 @@ same-length-2 : tie.Need-same-length-2 Inv-loop μ-loop
 same-length-2 c = search needs
 
 returns : tie.Need-returns Inv-loop μ-loop
-returns c = search needs
+returns c = λ e. absurd (false≢true (sym (c .stopped .ensures) ∙ e))
 
 count-requires : tie.Need-count-requires Inv-loop μ-loop
 count-requires c κs = search needs
@@ -64,7 +73,7 @@ same-length-6 : tie.Need-same-length-6 Inv-loop μ-loop
 same-length-6 c = search needs
 
 returns-3 : tie.Need-returns-3 Inv-loop μ-loop
-returns-3 c = search needs
+returns-3 c = λ e. absurd (false≢true (sym (not-true _ (c .if3 .taken)) ∙ e))
 
 sub-turns : tie.Need-sub-turns Inv-loop μ-loop
 sub-turns c = search needs
@@ -75,6 +84,9 @@ loop-less c = search needs
 loop-again : tie.Need-loop-again Inv-loop μ-loop
 loop-again c = search needs
 
+stopped-requires-2 : tie.Need-stopped-requires-2 Inv-loop μ-loop
+stopped-requires-2 c κs = search needs
+
 same-length-7 : tie.Need-same-length-7 Inv-loop μ-loop
 same-length-7 c = search needs
 
@@ -82,7 +94,7 @@ same-length-8 : tie.Need-same-length-8 Inv-loop μ-loop
 same-length-8 c = search needs
 
 returns-4 : tie.Need-returns-4 Inv-loop μ-loop
-returns-4 c = search needs
+returns-4 c = λ e. absurd (false≢true (sym (c .stopped2 .ensures) ∙ e))
 
 pub run-spec : {M : Type 1} → statement M
 run-spec =
@@ -93,6 +105,7 @@ run-spec =
     new-requires
     loop-holds
     read-requires
+    stopped-requires
     same-length
     same-length-2
     returns
@@ -111,6 +124,7 @@ run-spec =
     sub-turns
     loop-less
     loop-again
+    stopped-requires-2
     same-length-7
     same-length-8
     returns-4)
