@@ -1,4 +1,4 @@
--- The loop of `decode`, on plain lists: what was seen and what is left to decode make the whole, and each byte is one case of
+-- The loop of `decode_up_to_fault`, on plain lists: what was seen and what is left to decode make the whole, and each byte is one case of
 -- `decodeFrom`.
 -- Assumes nothing.
 use mathlib.Core.Path.{_≡_, refl, sym, ap, _∙_}
@@ -17,7 +17,7 @@ use Rattle.lists.specs.Front.{written}
 use Rattle.lists.proofs.Laws.{inside, lt-or-le}
 use Rattle.batch.specs.declared.utf8.Lead.{Lead}
 use Rattle.batch.specs.Utf8.{Text, put, fault, needOf, leastOf, bitsOf, whole, decodeFrom, decoded}
-use Rattle.batch.specs.Decodes.{Decodes, Leads}
+use Rattle.batch.specs.Decodes.{decodedAs, codesOf, Decodes, DecodesUpToFault, Leads}
 
 -- ---- the buffer: what has room of w, at its start
 
@@ -161,20 +161,22 @@ at-end least (b3 p) = refl
 
 module _ {bytes out₀ out : List ℕ} {need least acc n i : ℕ} (k : Kept bytes out₀ out need least acc n i) where
   -- nothing more is decoded
-  done : {b : _} → decodeFrom need least acc (drop i bytes) ≡ record { codes = []; ok = b } → Decodes bytes out₀ out (record { ok = b; count = n })
+  done : {b : _} → decodeFrom need least acc (drop i bytes) ≡ record { codes = []; ok = b } → DecodesUpToFault bytes out₀ out (decodedAs b n)
   done {b} e =
       let t : decoded bytes ≡ puts (k .seen) (record { codes = []; ok = b }) = k .told ∙ ap (puts (k .seen)) e in
-      let c : decoded bytes .codes ≡ k .seen = ap (λ (x : Text). x .codes) t ∙ append-nil (k .seen) in
-      record { ok = sym (ap (λ (x : Text). x .ok) t); count = k .count ∙ ap length (sym c); buffer = k .lay ∙ ap (λ (l : List ℕ). laid l out₀) (sym c) }
+      let o : b ≡ decoded bytes .ok = sym (ap (λ (x : Text). x .ok) t) in
+      let c : k .seen ≡ decoded bytes .codes = sym (ap (λ (x : Text). x .codes) t ∙ append-nil (k .seen)) in
+      let e : n ≡ length (decoded bytes .codes) = k .count ∙ ap length c in
+      record { result = λ j. decodedAs (o j) (e j); buffer = k .lay ∙ ap (λ (l : List ℕ). laid l out₀) c }
 
-  pub ends : length bytes ≤ i → Decodes bytes out₀ out (record { ok = eqb need 0; count = n })
+  pub ends : length bytes ≤ i → DecodesUpToFault bytes out₀ out (decodedAs (eqb need 0) n)
   ends h = done (ap (decodeFrom need least acc) (drop-of-length-le bytes h) ∙ at-end least (k .small))
 
   module _ (h : i < length bytes) {b : ℕ} (eb : b ≡ getD bytes i 0) where
     there : drop i bytes ≡ b ∷ drop (i + 1) bytes
     there = rw (add-one, eb) (drop-cons bytes i 0 h)
 
-    pub faults : decodeFrom need least acc (b ∷ drop (i + 1) bytes) ≡ fault → Decodes bytes out₀ out (record { ok = false; count = n })
+    pub faults : decodeFrom need least acc (b ∷ drop (i + 1) bytes) ≡ fault → DecodesUpToFault bytes out₀ out (decodedAs false n)
     faults e = done (ap (decodeFrom need least acc) there ∙ e)
 
     pub stays : {need′ least′ acc′ : ℕ} → decodeFrom need least acc (b ∷ drop (i + 1) bytes) ≡ decodeFrom need′ least′ acc′ (drop (i + 1) bytes)
@@ -209,3 +211,16 @@ module _ {bytes out₀ out : List ℕ} {need least acc n i : ℕ} (k : Kept byte
           long = ap length f ∙ length-set out n v ∙ k .long;
           small = q;
         }
+
+-- ---- `decode`: a refusal, or what the pass leaves where there is no fault
+
+module _ (bytes before : List ℕ) where
+  pub refused : decoded bytes .ok ≡ false → Decodes bytes before before (decodedAs false 0)
+  unfolding codesOf
+  refused e = rw e (record { result = refl; buffer = laid-none before })
+
+  pub well : decoded bytes .ok ≡ true → {after : List ℕ} {r : _} → DecodesUpToFault bytes before after r → Decodes bytes before after r
+  unfolding codesOf
+  well e d =
+      let c : decoded bytes .codes ≡ codesOf bytes = rw e in
+      record { result = d .result ∙ ap (λ (l : List ℕ). decodedAs (decoded bytes .ok) (length l)) c; buffer = d .buffer ∙ ap (λ (l : List ℕ). laid l before) c }

@@ -4,6 +4,7 @@
 use mathlib.Core.Path.{_≡_, refl, sym, _∙_}
 use mathlib.Core.List.{List}
 use Prim.Native.Nat.{ℕ}
+use Rattle.lists.proofs.Unique.{decided}
 use Rattle.batch.specs.declared.answer.Wrote.{Wrote}
 use Rattle.batch.specs.declared.utf8.Decoded.{Decoded}
 use Rattle.batch.specs.Decodes.{Decodes}
@@ -11,10 +12,7 @@ use Rattle.batch.specs.Answers.{Writes}
 use Rattle.batch.proofs.Lent.{stands-one}
 
 pub decodes-once : (bytes before a b : List ℕ) (r s : Decoded) → Decodes bytes before a r → Decodes bytes before b s → (r ≡ s) × (a ≡ b)
-decodes-once bytes before a b r s x y =
-    let o = x .ok ∙ sym (y .ok) in
-    let n = x .count ∙ sym (y .count) in
-    (λ i. record { ok = o i; count = n i }, x .buffer ∙ sym (y .buffer))
+decodes-once bytes before a b r s x y = (decided (x .result) (y .result), decided (x .buffer) (y .buffer))
 
 pub writes-once : (xs before a b : List ℕ) (r s : Wrote) → Writes xs before a r → Writes xs before b s → (r ≡ s) × (a ≡ b)
 writes-once xs before a b r s x y =

@@ -1,25 +1,36 @@
--- What `decode` and `read_name` answer and write.
+-- What `decode`, its one pass and `read_name` answer and write.
 use mathlib.Core.Path.{_≡_}
 use mathlib.Core.Bool.{Bool, true}
-use mathlib.Core.List.{List}
+use mathlib.Core.List.{List, []}
 use Prim.Native.Nat.{ℕ, _≤_, _<_, min}
 use lib.Dec.{leb}
 use lib.ListN.{length, take, getD}
-use Rattle.lists.specs.Tests.{allOf}
+use Rattle.lists.specs.Tests.{pick, allOf}
 use Rattle.lists.specs.Front.{written}
 use Rattle.batch.specs.declared.utf8.Decoded.{Decoded}
 use Rattle.batch.specs.declared.utf8.Lead.{Lead}
 use Rattle.batch.specs.declared.utf8.Read.{Read}
 use Rattle.batch.specs.Utf8.{decoded, needOf, leastOf, bitsOf}
 
--- it counts all code points, and writes what has room
-pub record Decodes (bytes before after : List ℕ) (r : Decoded) : Type 0 where
-  pub ok : r .ok ≡ decoded bytes .ok
-  pub count : r .count ≡ length (decoded bytes .codes)
-  pub buffer : after ≡ written (take (length before) (decoded bytes .codes)) before
-
 abbrev pub decodedAs : Bool → ℕ → Decoded
 decodedAs ok n = record { ok = ok; count = n }
+
+-- it tells whether there is no fault, counts these code points, and writes those that have room
+pub record Tells (well : Bool) (codes before after : List ℕ) (r : Decoded) : Type 0 where
+  pub result : r ≡ decodedAs well (length codes)
+  pub buffer : after ≡ written (take (length before) codes) before
+
+-- `decode_up_to_fault`: the code points before the first fault
+abbrev pub DecodesUpToFault : List ℕ → List ℕ → List ℕ → Decoded → Type 0
+DecodesUpToFault bytes before after r = Tells (decoded bytes .ok) (decoded bytes .codes) before after r
+
+-- the code points of well-formed bytes; of others none
+unfoldable pub codesOf : List ℕ → List ℕ
+codesOf bytes = pick (decoded bytes .ok) (decoded bytes .codes) []
+
+-- `decode`: a refusal counts none and leaves the buffer as it was
+abbrev pub Decodes : List ℕ → List ℕ → List ℕ → Decoded → Type 0
+Decodes bytes before after r = Tells (decoded bytes .ok) (codesOf bytes) before after r
 
 -- what a first byte says
 pub record Leads (b : ℕ) (r : Lead) : Type 0 where

@@ -4,7 +4,7 @@ use crate::fields::TAB;
 use crate::fields::field_from;
 use crate::fields::is_id;
 use crate::fields::split;
-use crate::utf8::decode;
+use crate::utf8::decode_up_to_fault;
 use crate::utf8::read_name;
 use rules::Class;
 ghost use mathlib.Core.Path.{_≡_};
@@ -169,7 +169,7 @@ fn put_fields(kanji: &[u32], id: &[u8], name: &[u8], out: &mut [u8]) -> usize
         return put_bad(out);
     }
     let mut text = [0u32; 257];
-    let decoded = decode(name, &mut text);
+    let decoded = decode_up_to_fault(name, &mut text);
     if !decoded.ok {
         return put_bad(out);
     }

@@ -4,10 +4,10 @@ ghost use mathlib.Core.Bool.{true};
 ghost use Prim.Native.Nat.{_+_, _^_, _≤_, _<_, min};
 ghost use lib.ListN.{length, set};
 ghost use Rattle.lists.specs.Tests.{within};
-ghost use Rattle.batch.specs.Utf8.{whole};
-ghost use Rattle.batch.specs.Decodes.{decodedAs, Decodes, Leads, Reads};
+ghost use Rattle.batch.specs.Utf8.{whole, decoded};
+ghost use Rattle.batch.specs.Decodes.{decodedAs, Decodes, DecodesUpToFault, Leads, Reads};
 
-// Whether all bytes are well-formed, and how many code points there are before the first fault.
+// Whether all bytes are well-formed, and how many code points were counted.
 pub struct Decoded {
     pub ok: bool,
     pub count: usize,
@@ -113,9 +113,9 @@ fn told(ok: bool, count: usize) -> Decoded
     Decoded { ok, count }
 }
 
-// The code points of bytes: as many as fit go to the start of out, all are counted; with a fault, those before it.
-pub fn decode(bytes: &[u8], out: &mut [u32]) -> Decoded
-    ensures { λ r. ⌜ Decodes (now (bytes .entry)) (now (out .entry)) (now (out .exit)) r ⌝ }
+// The code points before the first fault, in one pass: as many as fit go to the start of out, all are counted.
+pub(crate) fn decode_up_to_fault(bytes: &[u8], out: &mut [u32]) -> Decoded
+    ensures { λ r. ⌜ DecodesUpToFault (now (bytes .entry)) (now (out .entry)) (now (out .exit)) r ⌝ }
 {
     let mut need = 0;
     let mut least = 0;
@@ -152,6 +152,25 @@ pub fn decode(bytes: &[u8], out: &mut [u32]) -> Decoded
         }
     }
     told(need == 0, n)
+}
+
+// Whether there is no fault. What the pass writes has room for one code point, and goes nowhere.
+fn is_well_formed(bytes: &[u8]) -> bool
+    ensures { λ r. ⌜ r ≡ decoded (now (bytes .entry)) .ok ⌝ }
+{
+    let mut scratch = [0u32; 1];
+    let seen = decode_up_to_fault(bytes, &mut scratch);
+    seen.ok
+}
+
+// The code points of well-formed bytes: as many as fit go to the start of out, all are counted. Of other bytes none are, and nothing is written.
+pub fn decode(bytes: &[u8], out: &mut [u32]) -> Decoded
+    ensures { λ r. ⌜ Decodes (now (bytes .entry)) (now (out .entry)) (now (out .exit)) r ⌝ }
+{
+    if !is_well_formed(bytes) {
+        return told(false, 0);
+    }
+    decode_up_to_fault(bytes, out)
 }
 
 // Whether a name was read up to an LF, how many code points it has, and where the LF is.

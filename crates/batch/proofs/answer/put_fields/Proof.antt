@@ -5,6 +5,7 @@ use Prim.Native.Nat.{ℕ, min}
 use lib.ListN.{replicate}
 use borrow.Author.Tests.{not-true, not-false}
 use Rattle.rules.specs.Editions.{todayWith}
+use Rattle.batch.specs.declared.utf8.Decoded.{Decoded}
 use Rattle.batch.specs.Utf8.{decoded}
 use Rattle.batch.proofs.LineFields.{id-length}
 use Rattle.batch.proofs.Answering.{bad-id, bad-name, good-fields, lent-name}
@@ -26,11 +27,11 @@ returns c =
     let a = c .before .before .before .before .before .before .before .before .before .before .args in
     rw (bad-id (todayWith (a .kanji .now)) (a .id .now) (a .name .now) (sym (c .before .before .before .before .before .is-id .ensures) ∙ not-true _ (c .before .before .before .before .if1 .taken))) (c .before .before .put-bad .ensures)
 
-slice-aggregate-decode : tie.Need-slice-aggregate-decode
-slice-aggregate-decode c = search needs
+slice-aggregate-decode-up-to-fault : tie.Need-slice-aggregate-decode-up-to-fault
+slice-aggregate-decode-up-to-fault c = search needs
 
-decode-requires : tie.Need-decode-requires
-decode-requires c κs = search needs
+decode-up-to-fault-requires : tie.Need-decode-up-to-fault-requires
+decode-up-to-fault-requires c κs = search needs
 
 put-bad-requires-2 : tie.Need-put-bad-requires-2
 put-bad-requires-2 c κs = search needs
@@ -41,7 +42,7 @@ same-length-2 c = search needs
 returns-2 : tie.Need-returns-2
 returns-2 c =
     let a = c .before .before .before .before .before .before .before .before .before .before .before .before .before .before .before .args in
-    rw (bad-name (todayWith (a .kanji .now)) (a .id .now) (a .name .now) (sym (c .before .before .before .before .before .before .before .before .before .before .is-id .ensures) ∙ not-false _ (c .before .before .before .before .before .before .before .before .before .if1 .left)) (sym (c .before .before .before .before .before .before .before .decode .ensures .ok) ∙ not-true _ (c .before .before .before .before .if2 .taken))) (c .before .before .put-bad2 .ensures)
+    rw (bad-name (todayWith (a .kanji .now)) (a .id .now) (a .name .now) (sym (c .before .before .before .before .before .before .before .before .before .before .is-id .ensures) ∙ not-false _ (c .before .before .before .before .before .before .before .before .before .if1 .left)) (sym (ap (λ (x : Decoded). x .ok) (c .before .before .before .before .before .before .before .decode-up-to-fault .ensures .result)) ∙ not-true _ (c .before .before .before .before .if2 .taken))) (c .before .before .put-bad2 .ensures)
 
 lent-requires : tie.Need-lent-requires
 lent-requires c κs = search needs
@@ -64,10 +65,10 @@ same-length-3 c = search needs
 returns-3 : tie.Need-returns-3
 returns-3 c =
     let a = c .before .before .before .before .before .before .before .before .before .before .before .before .before .before .before .before .before .before .args in
-    let d = c .before .before .before .before .before .before .before .before .before .before .decode in
+    let d = c .before .before .before .before .before .before .before .before .before .before .decode-up-to-fault in
     let n = c .before .before .before .before .before .before .lent in
-    let g = lent-name (decoded (a .name .now) .codes) (replicate 257 0) (d .last .1 .0) (n .result) refl (d .ensures .buffer) (n .ensures ∙ ap (λ (k : ℕ). min k 257) (d .ensures .count)) in
-    rw (good-fields (todayWith (a .kanji .now)) (a .id .now) (a .name .now) _ (sym (c .before .before .before .before .before .before .before .before .before .before .before .before .before .is-id .ensures) ∙ not-false _ (c .before .before .before .before .before .before .before .before .before .before .before .before .if1 .left)) (sym (d .ensures .ok) ∙ not-false _ (c .before .before .before .before .before .before .before .if2 .left)) g) (c .before .before .put-text .ensures)
+    let g = lent-name (decoded (a .name .now) .codes) (replicate 257 0) (d .last .1 .0) (n .result) refl (d .ensures .buffer) (n .ensures ∙ ap (λ (x : Decoded). min (x .count) 257) (d .ensures .result)) in
+    rw (good-fields (todayWith (a .kanji .now)) (a .id .now) (a .name .now) _ (sym (c .before .before .before .before .before .before .before .before .before .before .before .before .before .is-id .ensures) ∙ not-false _ (c .before .before .before .before .before .before .before .before .before .before .before .before .if1 .left)) (sym (ap (λ (x : Decoded). x .ok) (d .ensures .result)) ∙ not-false _ (c .before .before .before .before .before .before .before .if2 .left)) g) (c .before .before .put-text .ensures)
 
 pub put-fields-spec : {M : Type 1} → statement M
 put-fields-spec =
@@ -77,8 +78,8 @@ put-fields-spec =
     put-bad-requires
     same-length
     returns
-    slice-aggregate-decode
-    decode-requires
+    slice-aggregate-decode-up-to-fault
+    decode-up-to-fault-requires
     put-bad-requires-2
     same-length-2
     returns-2
