@@ -1,6 +1,7 @@
 pub mod Encoding
 mod Decoding
 mod LineFields
+mod Taking
 pub mod OneTab
 mod Pieces
 pub mod Digits

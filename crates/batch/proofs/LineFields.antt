@@ -5,33 +5,55 @@ use mathlib.Core.Path.{_≡_, sym, ap, _∙_}
 use mathlib.Core.Bool.{Bool, true, false, _||_}
 use mathlib.Core.List.{List}
 use Prim.Native.Nat.{ℕ, suc, _+_, _-_, _≤_, _<_}
-use native.Mathlib.Numerals.{add-one}
 use native.Mathlib.Omega.{arith}
-use lib.Dec.{eqb}
-use lib.ListN.{length, length-drop}
-use borrow.Author.Tests.{eq-eqb, ne-eqb}
-use Rattle.lists.specs.Tests.{within, anyOf, allOf, firstOf}
+use lib.Dec.{eqb, ltb}
+use lib.ListN.{length, drop, length-drop}
+use borrow.Author.Tests.{lt-ltb, le-ltb, eq-eqb, ne-eqb}
+use Rattle.lists.specs.Tests.{pick, within, anyOf, allOf, firstOf}
 use Rattle.lists.proofs.Laws.{both, inside, outside, in-range, or-left, or-right}
 use Rattle.lists.proofs.Scan.{found, not-found}
 use Rattle.batch.specs.declared.fields.Stretch.{Stretch}
+use Rattle.batch.specs.declared.fields.TwoFields.{TwoFields}
 use Rattle.batch.specs.declared.fields.Parts.the-variants.{Two, Other}
 use Rattle.batch.specs.Answer.{tab, nameOf, oneTab, idByte, goodId}
-use Rattle.batch.specs.Fields.{fieldAt, partsOf}
+use Rattle.batch.specs.Fields.{fieldAt, fieldsOf, partsOf}
+
+-- ---- a field, up to where a tab was looked for
+
+module _ (line : List ℕ) (at end : ℕ) (e : end ≡ at + firstOf tab (drop at line)) where
+  -- up to a place, by whether that is a tab's
+  abbrev pub up-to : ℕ → Bool → Stretch
+  up-to n b = record { start = at; end = n; next = pick b (n + 1) n }
+
+  up-to-end : up-to end (ltb end (length line)) ≡ fieldAt line at
+  up-to-end = ap (λ (n : ℕ). up-to n (ltb n (length line))) e
+
+  pub by-tab : end < length line → up-to end true ≡ fieldAt line at
+  by-tab h = ap (up-to end) (sym (lt-ltb end (length line) h)) ∙ up-to-end
+
+  pub by-end : length line ≤ end → up-to end false ≡ fieldAt line at
+  by-end h = ap (up-to end) (sym (le-ltb end (length line) h)) ∙ up-to-end
 
 -- ---- exactly one tab
 
-module _ (line : List ℕ) (f g : Stretch) (ef : f ≡ fieldAt line 0) where
-  tab-at : f .end ≡ firstOf tab line
-  tab-at = omega (arith, ap (λ (x : Stretch). x .end) ef)
+module _ (line : List ℕ) (both : TwoFields) (e : both ≡ fieldsOf line) where
+  tab-at : both .id .end ≡ firstOf tab line
+  tab-at = omega (arith, ap (λ (x : TwoFields). x .id .end) e)
 
-  pub no-tab : length line ≤ f .end → Other ≡ partsOf line
+  pub no-tab : length line ≤ both .id .end → Other ≡ partsOf line
   unfolding partsOf oneTab
   no-tab h = simp (not-found tab line (omega (arith, tab-at)))
 
-  module _ (h : f .end < length line) (eg : g ≡ fieldAt line (f .end + 1)) where
-    name-ends : g .end ≡ suc (firstOf tab line) + firstOf tab (nameOf line)
+  module _ (h : both .id .end < length line) where
+    -- reading goes on past the tab
+    past-tab : fieldAt line 0 .next ≡ suc (firstOf tab line)
+    past-tab =
+        let n : both .id .end + 1 ≡ suc (firstOf tab line) = omega (arith, tab-at) in
+        sym (ap (λ (x : Stretch). x .next) (by-tab line 0 (both .id .end) (ap (λ (x : TwoFields). x .id .end) e) h)) ∙ n
+
+    name-ends : both .name .end ≡ suc (firstOf tab line) + firstOf tab (nameOf line)
     unfolding nameOf
-    name-ends = ap (λ (x : Stretch). x .end) eg ∙ rw (add-one, tab-at)
+    name-ends = ap (λ (x : TwoFields). x .name .end) e ∙ ap (λ (n : ℕ). fieldAt line n .end) past-tab
 
     name-length : length (nameOf line) ≡ length line - suc (firstOf tab line)
     unfolding nameOf
@@ -40,11 +62,11 @@ module _ (line : List ℕ) (f g : Stretch) (ef : f ≡ fieldAt line 0) where
     some-tab : anyOf tab line ≡ true
     some-tab = found tab line (omega (arith, tab-at))
 
-    pub two-tabs : g .end < length line → Other ≡ partsOf line
+    pub two-tabs : both .name .end < length line → Other ≡ partsOf line
     unfolding partsOf oneTab
     two-tabs k = simp (some-tab, found tab (nameOf line) (omega (arith, name-ends, name-length)))
 
-    pub one-tab : length line ≤ g .end → Two (f .end) ≡ partsOf line
+    pub one-tab : length line ≤ both .name .end → Two (both .id .end) ≡ partsOf line
     unfolding partsOf oneTab
     one-tab k = simp (some-tab, not-found tab (nameOf line) (omega (arith, name-ends, name-length))) (ap Two tab-at)
 

@@ -1,5 +1,5 @@
--- A contract decides all: two results that satisfy it are the same, and so are the two buffers. The contracts of the line reader
--- are equations, and decide all as they stand.
+-- A contract decides all: two results that satisfy it are the same, and so are the two buffers. The contracts of the line reader's
+-- calls (`field_at`, `new`, `field`, `fields`, `split`, `is_id`) are equations: `decided` of lists/proofs/Unique is their theorem.
 -- Assumes nothing.
 use mathlib.Core.Path.{_≡_, refl, sym, _∙_}
 use mathlib.Core.List.{List}

@@ -5,7 +5,7 @@ ghost use lib.Dec.{eqb};
 ghost use lib.ListN.{drop};
 ghost use Rattle.lists.specs.Tests.{firstOf};
 ghost use Rattle.batch.specs.Answer.{idByte, goodId};
-ghost use Rattle.batch.specs.Fields.{fieldAt, partsOf};
+ghost use Rattle.batch.specs.Fields.{fieldAt, readerAt, takenBy, fieldsOf, partsOf};
 
 pub const TAB: u8 = 0x09;
 
@@ -14,10 +14,23 @@ pub struct LineReader<'a> {
     pub at: usize,
 }
 
-// A field: from start up to end.
+// A field: from start up to end. Reading goes on at next: past the tab that ended it, or at the end where the line did.
 pub struct Stretch {
     pub start: usize,
     pub end: usize,
+    pub next: usize,
+}
+
+// What reading a field answers: the field, and the reader moved past it.
+pub struct Taken<'a> {
+    pub field: Stretch,
+    pub rest: LineReader<'a>,
+}
+
+// The first field of a line, and the one after it.
+pub struct TwoFields {
+    pub id: Stretch,
+    pub name: Stretch,
 }
 
 // Of a line with exactly one tab, where it is: the id stands before it, the name past it.
@@ -44,48 +57,72 @@ pub(crate) fn find(s: &[u8], from: usize, b: u8) -> usize
 pub fn field_at(s: &[u8], at: usize) -> Stretch
     ensures { λ r. ⌜ r ≡ fieldAt (now (s .entry)) at ⌝ }
 {
+    let end = find(s, at, TAB);
+    if end < s.len() {
+        let next = end + 1;
+        return Stretch {
+            start: at,
+            end,
+            next,
+        };
+    }
     Stretch {
         start: at,
-        end: find(s, at, TAB),
+        end,
+        next: end,
     }
 }
 
 pub fn new<'a>(line: &'a [u8]) -> LineReader<'a>
-    ensures { λ r. ⌜ (r .line ≡ line .entry) × (r .at ≡ 0) ⌝ }
+    ensures { λ r. ⌜ r ≡ readerAt (line .entry) 0 ⌝ }
 {
     LineReader { line, at: 0 }
 }
 
-pub fn moved<'a>(r: LineReader<'a>, at: usize) -> LineReader<'a>
-    ensures { λ q. ⌜ (q .line ≡ r .entry .line) × (q .at ≡ at) ⌝ }
+pub fn field<'a>(r: LineReader<'a>) -> Taken<'a>
+    ensures { λ t. ⌜ t ≡ takenBy (r .entry) ⌝ }
 {
-    LineReader { line: r.line, at }
+    let field = field_at(r.line, r.at);
+    Taken {
+        field,
+        rest: LineReader {
+            line: r.line,
+            at: field.next,
+        },
+    }
 }
 
-pub fn field<'a>(r: LineReader<'a>) -> Stretch
-    ensures { λ f. ⌜ f ≡ fieldAt (now (r .entry .line)) (r .entry .at) ⌝ }
-{
-    field_at(r.line, r.at)
-}
-
-// The field of a line from a place on, by a reader.
-pub fn field_from(line: &[u8], at: usize) -> Stretch
+// The field of a line from a place on, by a reader that is made there.
+pub(crate) fn field_from(line: &[u8], at: usize) -> Stretch
     ensures { λ r. ⌜ r ≡ fieldAt (now (line .entry)) at ⌝ }
 {
-    field(moved(new(line), at))
+    let taken = field(LineReader { line, at });
+    taken.field
+}
+
+// The first two fields of a line, by one reader.
+pub fn fields(line: &[u8]) -> TwoFields
+    ensures { λ r. ⌜ r ≡ fieldsOf (now (line .entry)) ⌝ }
+{
+    let id = field(new(line));
+    let name = field(id.rest);
+    TwoFields {
+        id: id.field,
+        name: name.field,
+    }
 }
 
 // The two fields of a line with exactly one tab.
 pub fn split(line: &[u8]) -> Parts
     ensures { λ r. ⌜ r ≡ partsOf (now (line .entry)) ⌝ }
 {
-    let id = field_from(line, 0);
-    let tab = id.end;
+    let both = fields(line);
+    let tab = both.id.end;
     if line.len() <= tab {
         return Parts::Other;
     }
-    let name = field_from(line, tab + 1);
-    if name.end < line.len() {
+    let end = both.name.end;
+    if end < line.len() {
         return Parts::Other;
     }
     Parts::Two(tab)

@@ -1,7 +1,7 @@
 -- `put_fields` meets its contract: a bad id, a name that is not well-formed, or what is put for the code points of the name.
 -- Assumes nothing.
 use mathlib.Core.Path.{refl, sym, ap, _∙_}
-use Prim.Native.Nat.{ℕ, min}
+use Prim.Native.Nat.{min}
 use lib.ListN.{replicate}
 use borrow.Author.Tests.{not-true, not-false}
 use Rattle.rules.specs.Editions.{todayWith}

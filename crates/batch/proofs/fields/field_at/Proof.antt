@@ -1,8 +1,7 @@
--- `field_at` meets its contract: a tab is the byte that is looked for.
+-- `field_at` meets its contract: a tab is the byte that is looked for, and one is found where the place is in the line.
 -- Assumes nothing.
-use mathlib.Core.Path.{ap}
-use Prim.Native.Nat.{ℕ}
 use Rattle.batch.specs.Answer.{tab}
+use Rattle.batch.proofs.LineFields.{by-tab, by-end}
 use borrow.Author.Needs.{needs}
 use Rattle.batch.proofs.fields.field_at.Statement.{statement}
 use Rattle.batch.proofs.fields.field_at.Tie as tie
@@ -10,9 +9,20 @@ use Rattle.batch.proofs.fields.field_at.Tie as tie
 find-requires : tie.Need-find-requires
 find-requires c κs = search needs
 
+add-next : tie.Need-add-next
+add-next c = search needs
+
 returns : tie.Need-returns
 unfolding tab
-returns c = ap (λ (x : ℕ). record { start = c .before .before .args .at; end = x }) (c .find .ensures)
+returns c =
+    let a = c .before .before .before .args in
+    by-tab (a .s .now) (a .at) (c .before .find .result) (c .before .find .ensures) (c .if1 .taken)
+
+returns-2 : tie.Need-returns-2
+unfolding tab
+returns-2 c =
+    let a = c .before .before .before .args in
+    by-end (a .s .now) (a .at) (c .before .find .result) (c .before .find .ensures) (c .if1 .left)
 
 pub field-at-spec : {M : Type 1} → statement M
-field-at-spec = tie.close (tie.spec find-requires returns)
+field-at-spec = tie.close (tie.spec find-requires add-next returns returns-2)
