@@ -154,7 +154,7 @@ pub(crate) fn decode_up_to_fault(bytes: &[u8], out: &mut [u32]) -> Decoded
     told(need == 0, n)
 }
 
-// Whether there is no fault. What the pass writes has room for one code point, and goes nowhere.
+// Whether there is no fault. The pass writes to an entry of its own, which goes nowhere.
 fn is_well_formed(bytes: &[u8]) -> bool
     ensures { λ r. ⌜ r ≡ decoded (now (bytes .entry)) .ok ⌝ }
 {
