@@ -28,12 +28,13 @@ pub fn check_with(kanji: &[u32], text: &[u32], out: &mut [u32]) -> Checked
         return refused(NO_ROOM, 0);
     }
     let mut form = [0u32; 256];
-    let judged = judge_into(kanji, text, &mut form);
+    let room: &mut [u32] = &mut form;
+    let judged = judge_into(kanji, text, room);
     if judged.number != ACCEPTED {
         return refused(judged.number, judged.place);
     }
     let length = judged.length;
-    let whole: &[u32] = &form;
+    let whole: &[u32] = room;
     lists::copy(&whole[0..length], out);
     let class = judged.class;
     Checked {

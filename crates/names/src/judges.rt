@@ -83,9 +83,9 @@ fn three_labels(kanji: &[u32], left: &[u32], middle: &[u32], last: &[u32]) -> Ve
     if last.len() == 0 {
         return refused(EMPTY_LABEL, 2);
     }
-    let number = left_rule(kanji, left);
-    if number != ACCEPTED {
-        return refused(number, 0);
+    let rule = left_rule(kanji, left);
+    if rule != ACCEPTED {
+        return refused(rule, 0);
     }
     let under_jp = is_jp(last);
     if !under_jp {

@@ -18,7 +18,7 @@ use Rattle.lists.proofs.Tables.{clear}
 use Rattle.characters.specs.Characters.{alnum, hyphen, asciiSet}
 use Rattle.rules.specs.Permits.{Permits, Laws, labelChar, isEmpty}
 use Rattle.rules.specs.Rules.{middleDot, ordinary, isJapanese, beginsWithHyphen, endsWithHyphen, hyphenEdge, short, long, bareDot, labelRows, Sound}
-use Rattle.rules.specs.Hopeful.{begins, leftmost, tries}
+use Rattle.rules.specs.Hopeful.{begins, leftmost, filler, tries}
 use Rattle.rules.proofs.Views.{and-false, Cut, cut, cut-at}
 use Rattle.rules.proofs.Sound.{ascii-not, no-hyphen, ends-snoc}
 use Rattle.rules.proofs.Steps.{label-clear}
@@ -109,14 +109,14 @@ module _ (P : Permits) where
 module _ (P : Permits) (L : Laws P) where
   -- ---- one character more
 
-  module _ (ja : P .japanese 0x3042 ≡ true) (l : List ℕ) (b : beginsWithHyphen l ≡ false) where
-    kana-more : length l ≤ 14 → Clear (labelRows P 3 (l ++ 0x3042 ∷ []) 0)
+  module _ (ja : P .japanese filler ≡ true) (l : List ℕ) (b : beginsWithHyphen l ≡ false) where
+    kana-more : length l ≤ 14 → Clear (labelRows P 3 (l ++ filler ∷ []) 0)
     unfolding labelRows short long bareDot isJapanese anyOf ordinary middleDot hyphen
     kana-more h =
-        let some : anyOf (P .japanese) (l ++ 0x3042 ∷ []) ≡ true = any-append (P .japanese) l (0x3042 ∷ []) ∙ or-right (anyOf (P .japanese) l) _ (rw ja) in
-        let good : anyOf (ordinary P) (l ++ 0x3042 ∷ []) ≡ true = any-append (ordinary P) l (0x3042 ∷ []) ∙ or-right (anyOf (ordinary P) l) _ (rw ja) in (
-          edge-more l 0x3042 b refl,
-          (rw some, (rw (some, le-ltb 15 (length (l ++ 0x3042 ∷ [])) (omega (arith, length-append l (0x3042 ∷ [])))), (rw good (and-false (anyOf middleDot (l ++ 0x3042 ∷ []))), tt))),
+        let some : anyOf (P .japanese) (l ++ filler ∷ []) ≡ true = any-append (P .japanese) l (filler ∷ []) ∙ or-right (anyOf (P .japanese) l) _ (rw ja) in
+        let good : anyOf (ordinary P) (l ++ filler ∷ []) ≡ true = any-append (ordinary P) l (filler ∷ []) ∙ or-right (anyOf (ordinary P) l) _ (rw ja) in (
+          edge-more l filler b refl,
+          (rw some, (rw (some, le-ltb 15 (length (l ++ filler ∷ [])) (omega (arith, length-append l (filler ∷ [])))), (rw good (and-false (anyOf middleDot (l ++ filler ∷ []))), tt))),
         )
 
     letter-more : anyOf (P .japanese) l ≡ false → anyOf middleDot l ≡ false → 2 ≤ length l → length l ≤ 62 → Clear (labelRows P 3 (l ++ 0x61 ∷ []) 0)
@@ -133,20 +133,20 @@ module _ (P : Permits) (L : Laws P) where
         )
 
   -- what may still become a leftmost label is one, or one character more makes it one
-  module _ (ja : P .japanese 0x3042 ≡ true) (l : List ℕ) where
+  module _ (ja : P .japanese filler ≡ true) (l : List ℕ) where
     abbrev GrowsOn : Type 0
     GrowsOn = anyOf (λ (r : List ℕ). leftmost P (l ++ r)) tries ≡ true
 
     by-kana : beginsWithHyphen l ≡ false → length l ≤ 14 → GrowsOn
     unfolding tries anyOf
     by-kana b h =
-        or-right (leftmost P (l ++ [])) _ (or-left (leftmost P (l ++ 0x3042 ∷ [])) _ (clear-leftmost P (l ++ 0x3042 ∷ []) (kana-more ja l b h)))
+        or-right (leftmost P (l ++ [])) _ (or-left (leftmost P (l ++ filler ∷ [])) _ (clear-leftmost P (l ++ filler ∷ []) (kana-more ja l b h)))
 
     by-letter : beginsWithHyphen l ≡ false → anyOf (P .japanese) l ≡ false → anyOf middleDot l ≡ false → 2 ≤ length l → length l ≤ 62 → GrowsOn
     unfolding tries anyOf
     by-letter b n d lo hi =
         or-right (leftmost P (l ++ [])) _
-        (or-right (leftmost P (l ++ 0x3042 ∷ [])) _
+        (or-right (leftmost P (l ++ filler ∷ [])) _
         (or-left (leftmost P (l ++ 0x61 ∷ [])) _ (clear-leftmost P (l ++ 0x61 ∷ []) (letter-more ja l b n d lo hi))))
 
     pub one-more : (r : List ℕ) → Sound P (l ++ r) → GrowsOn

@@ -16,7 +16,7 @@ use Rattle.rules.specs.Labels.{join}
 use Rattle.rules.specs.Permits.{Permits, Laws, labelChar, middle}
 use Rattle.rules.specs.Rules.{jp, Sound}
 use Rattle.rules.specs.Grammar.{Derives, general, prefecture, listed}
-use Rattle.rules.specs.Hopeful.{begins, leftmost, tries, grows, settled, HopeLaws}
+use Rattle.rules.specs.Hopeful.{begins, leftmost, filler, tries, grows, settled, HopeLaws}
 use Rattle.rules.specs.declared.Class.{Class}
 use Rattle.rules.specs.declared.Class.the-variants.{General, Prefecture}
 use Rattle.rules.proofs.Sound.{ascii-range, sound-label}
@@ -71,12 +71,12 @@ module _ (P : Permits) (H : HopeLaws P) where
 
     first-grown : anyOf (λ (r : List ℕ). leftmost P (l ++ r)) tries ≡ true → Grown l
     unfolding tries anyOf allOf labelChar asciiSet alnum within unchanged replace replaceIn isHalf ranges rangeIn
-    first-grown e = go (leftmost P (l ++ [])) refl (leftmost P (l ++ 0x3042 ∷ [])) refl (leftmost P (l ++ 0x61 ∷ [])) refl e
+    first-grown e = go (leftmost P (l ++ [])) refl (leftmost P (l ++ filler ∷ [])) refl (leftmost P (l ++ 0x61 ∷ [])) refl e
       where
-        go : (a : Bool) → leftmost P (l ++ []) ≡ a → (b : Bool) → leftmost P (l ++ 0x3042 ∷ []) ≡ b → (c : Bool) → leftmost P (l ++ 0x61 ∷ []) ≡ c
+        go : (a : Bool) → leftmost P (l ++ []) ≡ a → (b : Bool) → leftmost P (l ++ filler ∷ []) ≡ b → (c : Bool) → leftmost P (l ++ 0x61 ∷ []) ≡ c
             → a || (b || (c || false)) ≡ true → Grown l
         go true p b q c s h = first-on [] refl refl p
-        go false p true q c s h = first-on (0x3042 ∷ []) (rw (H .tried)) refl q
+        go false p true q c s h = first-on (filler ∷ []) (rw (H .tried)) refl q
         go false p false q true s h = first-on (0x61 ∷ []) (rw (or-right (P .japanese 0x61) true refl)) refl s
         go false p false q false s h = absurd (false≢true h)
 

@@ -31,9 +31,13 @@ begins l w = same l (take (length l) w)
 unfoldable pub leftmost : Permits → List ℕ → Bool
 leftmost P l = eqb (first (labelRows P 3 l 0) .number) 0
 
+-- the hiragana that is tried
+abbrev pub filler : ℕ
+filler = 0x3042
+
 -- what is tried after an unfinished leftmost label: nothing, one hiragana, one letter; no more is ever needed
 unfoldable pub tries : List (List ℕ)
-tries = [] ∷ (0x3042 ∷ []) ∷ (0x61 ∷ []) ∷ []
+tries = [] ∷ (filler ∷ []) ∷ (0x61 ∷ []) ∷ []
 
 -- one label: with what is tried it is a leftmost label; two: a leftmost label, and the beginning of "jp" or of a prefecture label; three: a
 -- leftmost label, a prefecture label, and the beginning of "jp"
@@ -61,5 +65,5 @@ pub record HopeLaws (P : Permits) : Type 0 where
   -- each prefecture label is of such characters
   pub middle-settled : allOf (allOf settled) (P .middles) ≡ true
   -- the hiragana that is tried, and whatever a mark joins, are Japanese
-  pub tried : P .japanese 0x3042 ≡ true
+  pub tried : P .japanese filler ≡ true
   pub bases : (b m : ℕ) → (composed b m ≡ 0 → ⊥) → P .japanese b ≡ true

@@ -12,8 +12,8 @@ refused-requires c κs = search needs
 returns : tie.Need-returns
 returns c = check-no-room _ _ _ (c .refused .ensures) (c .before .if1 .taken)
 
-slice-aggregate-judge-into : tie.Need-slice-aggregate-judge-into
-slice-aggregate-judge-into c = search needs
+slice-aggregate-room : tie.Need-slice-aggregate-room
+slice-aggregate-room c = search needs
 
 judge-into-requires : tie.Need-judge-into-requires
 judge-into-requires c κs = search needs
@@ -22,10 +22,7 @@ refused-requires-2 : tie.Need-refused-requires-2
 refused-requires-2 c κs = search needs
 
 returns-2 : tie.Need-returns-2
-returns-2 c = check-refused _ _ _ (c .before .before .before .before .before .before .if1 .left) (c .before .before .before .before .judge-into .ensures) (c .refused2 .ensures) (c .before .if2 .taken)
-
-slice-aggregate-whole : tie.Need-slice-aggregate-whole
-slice-aggregate-whole c = search needs
+returns-2 c = check-refused _ _ _ (c .before .before .before .before .before .before .before .before .before .if1 .left) (c .before .before .before .before .before .before .judge-into .ensures) (c .refused2 .ensures) (c .before .before .if2 .taken)
 
 sub-copy : tie.Need-sub-copy
 sub-copy c = search needs
@@ -34,7 +31,7 @@ part-copy-start : tie.Need-part-copy-start
 part-copy-start c = search needs
 
 part-copy-end : tie.Need-part-copy-end
-part-copy-end c = let p = passed _ _ (c .before .before .before .before .judge-into .ensures) (c .before .if2 .left) in omega (arith, p .few, c .before .before .before .before .judge-into .kept .1 .1 .0)
+part-copy-end c = let p = passed _ _ (c .before .before .before .before .before .judge-into .ensures) (c .before .if2 .left) in omega (arith, p .few, c .before .before .before .before .before .judge-into .kept .1 .1 .0)
 
 copy-requires : tie.Need-copy-requires
 copy-requires c κs = search needs
@@ -43,7 +40,7 @@ same-length : tie.Need-same-length
 same-length c = search needs
 
 returns-3 : tie.Need-returns-3
-returns-3 c = check-accepted _ _ _ (c .before .before .before .before .before .before .before .before .before .before .before .if1 .left) (c .before .before .before .before .before .before .before .before .before .judge-into .ensures) (c .before .before .before .before .before .before .if2 .left) (c .before .before .copy .ensures)
+returns-3 c = check-accepted _ _ _ (c .before .before .before .before .before .before .before .before .before .before .before .before .before .before .if1 .left) (c .before .before .before .before .before .before .before .before .before .before .before .judge-into .ensures) (c .before .before .before .before .before .before .before .if2 .left) (c .before .before .before .copy .ensures)
 
 pub check-with-spec : {M : Type 1} → statement M
 check-with-spec =
@@ -51,11 +48,10 @@ check-with-spec =
     (tie.spec
     refused-requires
     returns
-    slice-aggregate-judge-into
+    slice-aggregate-room
     judge-into-requires
     refused-requires-2
     returns-2
-    slice-aggregate-whole
     sub-copy
     part-copy-start
     part-copy-end
