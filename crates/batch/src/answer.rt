@@ -213,7 +213,7 @@ pub fn answer_with(kanji: &[u32], line: &[u8], out: &mut [u8]) -> Wrote
 }
 
 // Whether the line was answered, where its LF is, and how many bytes were written.
-pub struct Next {
+pub(crate) struct Next {
     pub done: bool,
     pub end: usize,
     pub length: usize,

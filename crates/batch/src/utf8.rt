@@ -174,7 +174,7 @@ pub fn decode(bytes: &[u8], out: &mut [u32]) -> Decoded
 }
 
 // Whether a name was read up to an LF, how many code points it has, and where the LF is.
-pub struct Read {
+pub(crate) struct Read {
     pub ok: bool,
     pub count: usize,
     pub end: usize,
