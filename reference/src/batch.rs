@@ -18,7 +18,8 @@ pub fn desk(input: &[u8]) -> Vec<u8> {
     answers.concat().into_bytes()
 }
 
-fn answer_line(line: &[u8]) -> String {
+/// The answer to one line, without its LF.
+pub fn answer_line(line: &[u8]) -> String {
     let Some((id, text)) = read_line(line) else {
         return "-\t16\t0\t-\t-".to_string();
     };
@@ -28,16 +29,33 @@ fn answer_line(line: &[u8]) -> String {
     }
 }
 
+/// The place of the only tab of a line, or none where it has no tab or more.
+pub fn only_tab(line: &[u8]) -> Option<usize> {
+    let tabs: Vec<usize> = (0..line.len()).filter(|at| line[*at] == b'\t').collect();
+    match tabs[..] {
+        [tab] => Some(tab),
+        _ => None,
+    }
+}
+
+/// Start and end of the field from a place on: it ends at a tab or with the
+/// line. Past the line it is empty.
+pub fn field_at(line: &[u8], at: usize) -> (usize, usize) {
+    let rest = line.get(at..).unwrap_or_default();
+    let length = rest.iter().position(|byte| *byte == b'\t').unwrap_or(rest.len());
+    (at, at + length)
+}
+
+pub fn is_id(id: &[u8]) -> bool {
+    (1..=LONGEST_ID).contains(&id.len())
+        && id.iter().all(|byte| byte.is_ascii_alphanumeric() || *byte == b'-')
+}
+
 /// The id and the name's code points, or none for a bad line.
 fn read_line(line: &[u8]) -> Option<(String, Vec<u32>)> {
-    let fields: Vec<&[u8]> = line.split(|byte| *byte == b'\t').collect();
-    let [id, name] = fields[..] else {
-        return None;
-    };
-    let good_id = (1..=LONGEST_ID).contains(&id.len())
-        && id.iter().all(|byte| byte.is_ascii_alphanumeric() || *byte == b'-');
-    if line.len() > LONGEST_LINE || !good_id {
+    let (id, name) = line.split_at(only_tab(line)?);
+    if line.len() > LONGEST_LINE || !is_id(id) {
         return None;
     }
-    Some((String::from_utf8(id.to_vec()).ok()?, utf8::read(name)?))
+    Some((String::from_utf8(id.to_vec()).ok()?, utf8::read(&name[1..])?))
 }

@@ -2,9 +2,11 @@
 //! an accepted one writes its start alone.
 
 use crate::answer::{Answer, Class, Refusal};
+use crate::batch;
 use crate::coder;
 use crate::name;
 use crate::normal;
+use crate::utf8;
 
 /// What a call would write, and the class where it gives one.
 type Outcome<T> = Result<(Vec<T>, Option<Class>), Refusal>;
@@ -50,4 +52,28 @@ pub fn encode_label(label: &[u32], buffer: &mut [u8]) -> Answer {
 
 pub fn decode_label(octets: &[u8], buffer: &mut [u32]) -> Answer {
     lend(buffer, 63, || Ok((coder::decode(octets)?, None)))
+}
+
+/// As many entries as fit go to the buffer's start.
+pub fn copy<T: Copy>(entries: &[T], buffer: &mut [T]) {
+    let fit = entries.len().min(buffer.len());
+    buffer[..fit].copy_from_slice(&entries[..fit]);
+}
+
+/// How many code points well-formed UTF-8 has. As many as fit are written; of
+/// ill-formed UTF-8 none is.
+pub fn decode_utf8(octets: &[u8], buffer: &mut [u32]) -> Option<usize> {
+    let points = utf8::read(octets)?;
+    copy(&points, buffer);
+    Some(points.len())
+}
+
+/// The length of the answer to a batch's line. The call asks for 256 octets.
+pub fn answer_line(line: &[u8], buffer: &mut [u8]) -> Option<usize> {
+    if buffer.len() < 256 {
+        return None;
+    }
+    let answer = batch::answer_line(line) + "\n";
+    copy(answer.as_bytes(), buffer);
+    Some(answer.len())
 }

@@ -1,18 +1,19 @@
-//! How often each number comes up in a file of probe answers.
+//! How often each number comes up in the answers to probe lines.
 
 pub const NUMBERS: usize = 17;
 
-/// The numbers in one answer line. An answer of one or two fields is all yes
-/// and no and holds no number. A batch's answer begins with an octet of an id
-/// or with a hyphen, so its first field never reads as 0 to 16.
-fn numbers_in(line: &str) -> Vec<usize> {
-    let fields: Vec<&str> = line.split(' ').collect();
-    if fields.len() < 3 {
-        return Vec::new();
-    }
-    match fields[0].parse() {
-        Ok(number) if number < NUMBERS => vec![number],
-        _ => numbers_in_batch(&fields),
+/// The calls whose answer begins with a number.
+const NUMBERED: &str = "NCcAaEDLlJj";
+
+/// The numbers in the answer to a case. Most calls answer one; a batch answers
+/// one a line, in octets; the others answer none.
+fn numbers_in(case: &str, answer: &str) -> Vec<usize> {
+    let fields: Vec<&str> = answer.split(' ').collect();
+    match case.chars().next() {
+        Some(call) if NUMBERED.contains(call) => fields[0].parse().into_iter().collect(),
+        Some('B') => numbers_in_batch(&fields),
+        Some('W') => numbers_in_batch(&fields[2..]),
+        _ => Vec::new(),
     }
 }
 
@@ -23,10 +24,10 @@ fn numbers_in_batch(fields: &[&str]) -> Vec<usize> {
     output.lines().filter_map(second).collect()
 }
 
-/// The counts of numbers 0 to 16.
-pub fn count(answers: &str) -> [usize; NUMBERS] {
+/// The counts of numbers 0 to 16, of cases and their answers.
+pub fn count<'a>(answered: impl Iterator<Item = (&'a str, &'a str)>) -> [usize; NUMBERS] {
     let mut counts = [0; NUMBERS];
-    for number in answers.lines().flat_map(numbers_in) {
+    for number in answered.flat_map(|(case, answer)| numbers_in(case, answer)) {
         counts[number] += 1;
     }
     counts

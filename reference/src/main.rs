@@ -58,7 +58,9 @@ fn write_lines(out: &mut impl Write, mut lines: impl Iterator<Item = String>) ->
     lines.try_for_each(|line| writeln!(out, "{line}"))
 }
 
-fn write_counts(out: &mut impl Write, answers: &[u8]) -> io::Result<()> {
-    let counts = count::count(&String::from_utf8_lossy(answers));
+fn write_counts(out: &mut impl Write, lines: &[u8]) -> io::Result<()> {
+    let lines = String::from_utf8_lossy(lines);
+    let answers: Vec<String> = lines.lines().map(|line| probe::answer(line.as_bytes())).collect();
+    let counts = count::count(lines.lines().zip(answers.iter().map(String::as_str)));
     write_lines(out, (0..).zip(counts).map(|(number, times): (u8, _)| format!("{number} {times}")))
 }

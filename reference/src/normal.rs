@@ -63,16 +63,42 @@ pub fn compositions() -> &'static HashMap<(u32, u32), u32> {
     })
 }
 
+/// What a code point becomes.
+pub fn replaced(code: u32) -> u32 {
+    *replacements().get(&code).unwrap_or(&code)
+}
+
+/// The one character that a base and a mark become.
+pub fn joined(base: u32, mark: u32) -> Option<u32> {
+    compositions().get(&(base, mark)).copied()
+}
+
+/// The letter of a code point's kind: L letter, D digit, H hyphen,
+/// S separator, K half-width kana, M mark, O other. Letters and digits are
+/// so in either case and width; the half-width marks are half-width kana.
+pub fn kind(code: u32) -> char {
+    let is_half_width = char::from_u32(code).is_some_and(|c| HALF_WIDTH.contains(c));
+    match char::from_u32(replaced(code)) {
+        _ if is_half_width => 'K',
+        Some('a'..='z') => 'L',
+        Some('0'..='9') => 'D',
+        Some('-') => 'H',
+        Some('.') => 'S',
+        Some(MARK_VOICED | MARK_HALF_VOICED) => 'M',
+        _ => 'O',
+    }
+}
+
 /// The normal form with the places its characters came from.
 pub fn placed_normal_form(text: &[u32]) -> Vec<Placed> {
-    let replaced: Vec<u32> = text.iter().map(|code| *replacements().get(code).unwrap_or(code)).collect();
+    let replaced: Vec<u32> = text.iter().map(|code| replaced(*code)).collect();
     let mut normal = Vec::new();
     let mut place = 0;
     while place < replaced.len() {
         let code = replaced[place];
         let next = replaced.get(place + 1).copied();
-        let whole = next.and_then(|mark| compositions().get(&(code, mark)));
-        normal.push(Placed { code: *whole.unwrap_or(&code), place });
+        let whole = next.and_then(|mark| joined(code, mark));
+        normal.push(Placed { code: whole.unwrap_or(code), place });
         place += if whole.is_some() { 2 } else { 1 };
     }
     normal
@@ -81,6 +107,12 @@ pub fn placed_normal_form(text: &[u32]) -> Vec<Placed> {
 /// The normal form alone, of a text of any length.
 pub fn normal_form(text: &[u32]) -> Vec<u32> {
     placed_normal_form(text).iter().map(|c| c.code).collect()
+}
+
+/// The place in the text where an entry of its normal form began; 0 where
+/// there is no such entry.
+pub fn place_of(text: &[u32], entry: usize) -> usize {
+    placed_normal_form(text).get(entry).map_or(0, |c| c.place)
 }
 
 /// The labels: the stretches between periods of a normal form.

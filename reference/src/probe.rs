@@ -4,9 +4,11 @@
 use crate::answer::{Answer, Class};
 use crate::batch;
 use crate::calls;
+use crate::chars;
 use crate::grammar;
 use crate::hope;
 use crate::live::Live;
+use crate::normal;
 use std::fmt::LowerHex;
 
 pub const LONGEST_LINE: usize = 4000;
@@ -25,25 +27,42 @@ fn read_and_answer(line: &[u8]) -> Option<String> {
     let call = fields.next()?;
     let lent = fields.next().and_then(decimal)?;
     let numbers: Vec<u32> = fields.map(hexadecimal).collect::<Option<_>>()?;
-    let octets = || -> Option<Vec<u8>> {
-        let narrow = |number: &u32| u8::try_from(*number).ok();
-        numbers.iter().map(narrow).collect()
-    };
-    Some(match call {
-        "N" => in_points(lent, false, |buffer| calls::normal_form(&numbers, buffer)),
-        "C" => in_points(lent, true, |buffer| calls::check(&numbers, buffer)),
-        "A" => in_octets(lent, true, |buffer| calls::ascii_form(&numbers, buffer)),
-        "E" => in_octets(lent, false, |buffer| calls::encode_label(&numbers, buffer)),
-        "D" => {
-            let octets = octets()?;
-            in_points(lent, false, |buffer| calls::decode_label(&octets, buffer))
+    match call {
+        "B" | "D" | "F" | "U" | "W" => {
+            let narrow = |number: &u32| u8::try_from(*number).ok();
+            let octets: Vec<u8> = numbers.iter().map(narrow).collect::<Option<_>>()?;
+            Some(on_octets(call, lent, &octets))
         }
-        "S" => u8::from(grammar::second_reader(&numbers)).to_string(),
-        "L" => live(&numbers),
-        "M" => hopes(&numbers),
-        "B" => hex_list(&batch::desk(&octets()?)),
+        _ => on_numbers(call, lent, &numbers),
+    }
+}
+
+/// The calls on code points. Whether a call is lent the table of kanji or
+/// names it itself is one here.
+fn on_numbers(call: &str, lent: usize, numbers: &[u32]) -> Option<String> {
+    Some(match call {
+        "N" => in_points(lent, |buffer| plain(calls::normal_form(numbers, buffer))),
+        "C" | "c" => in_points(lent, |buffer| classed(calls::check(numbers, buffer))),
+        "A" | "a" => in_octets(lent, |buffer| classed(calls::ascii_form(numbers, buffer))),
+        "E" => in_octets(lent, |buffer| plain(calls::encode_label(numbers, buffer))),
+        "S" | "s" => flag(grammar::second_reader(numbers)).to_string(),
+        "L" | "l" | "J" | "j" => live(numbers),
+        "M" => hopes(numbers),
+        "P" => words((0..=lent).map(|entry| normal::place_of(numbers, entry))),
+        "K" => characters(numbers),
+        "T" => lists(lent, numbers),
         _ => return None,
     })
+}
+
+fn on_octets(call: &str, lent: usize, octets: &[u8]) -> String {
+    match call {
+        "D" => in_points(lent, |buffer| plain(calls::decode_label(octets, buffer))),
+        "U" => in_points(lent, |buffer| counted(calls::decode_utf8(octets, buffer))),
+        "W" => in_octets(lent, |buffer| counted(calls::answer_line(octets, buffer))),
+        "F" => fields(lent, octets),
+        _ => hex_list(&batch::desk(octets)),
+    }
 }
 
 fn decimal(field: &str) -> Option<usize> {
@@ -56,32 +75,49 @@ fn hexadecimal(field: &str) -> Option<u32> {
     (format!("{number:x}") == field).then_some(number)
 }
 
-fn hex_list<T: LowerHex>(entries: &[T]) -> String {
-    let words: Vec<String> = entries.iter().map(|entry| format!("{entry:x}")).collect();
+fn words<T: ToString>(entries: impl Iterator<Item = T>) -> String {
+    let words: Vec<String> = entries.map(|entry| entry.to_string()).collect();
     words.join(" ")
 }
 
-fn in_points(lent: usize, classed: bool, call: impl FnOnce(&mut [u32]) -> Answer) -> String {
-    run((0..lent as u32).map(|i| 0xAAAA_AAAA - i).collect(), classed, call)
+fn hex_list<T: LowerHex>(entries: &[T]) -> String {
+    words(entries.iter().map(|entry| format!("{entry:x}")))
 }
 
-fn in_octets(lent: usize, classed: bool, call: impl FnOnce(&mut [u8]) -> Answer) -> String {
-    run((0..lent).map(|i| 255 - (i % 16) as u8).collect(), classed, call)
+fn flag(yes: bool) -> char {
+    if yes {
+        '1'
+    } else {
+        '0'
+    }
+}
+
+fn plain(answer: Answer) -> String {
+    format!("{} {} {}", answer.number, answer.place, answer.length)
+}
+
+fn classed(answer: Answer) -> String {
+    let class = Class::letter(answer.class);
+    format!("{} {} {class} {}", answer.number, answer.place, answer.length)
+}
+
+/// Whether a call did its work, and the count it gives.
+fn counted(count: Option<usize>) -> String {
+    format!("{} {}", flag(count.is_some()), count.unwrap_or(0))
+}
+
+fn in_points(lent: usize, call: impl FnOnce(&mut [u32]) -> String) -> String {
+    run((0..lent as u32).map(|i| 0xAAAA_AAAA - i).collect(), call)
+}
+
+fn in_octets(lent: usize, call: impl FnOnce(&mut [u8]) -> String) -> String {
+    run((0..lent).map(|i| 255 - (i % 16) as u8).collect(), call)
 }
 
 /// Runs a call on a buffer and prints its answer and what it changed.
-fn run<T: Copy + PartialEq + LowerHex>(
-    before: Vec<T>,
-    classed: bool,
-    call: impl FnOnce(&mut [T]) -> Answer,
-) -> String {
+fn run<T: Copy + PartialEq + LowerHex>(before: Vec<T>, call: impl FnOnce(&mut [T]) -> String) -> String {
     let mut buffer = before.clone();
-    let answer = call(&mut buffer);
-    let mut out = format!("{} {}", answer.number, answer.place);
-    if classed {
-        out += &format!(" {}", Class::letter(answer.class));
-    }
-    out += &format!(" {}", answer.length);
+    let mut out = call(&mut buffer);
     let changed = |i: &usize| buffer[*i] != before[*i];
     let end = (0..buffer.len()).rfind(changed).map_or(0, |last| last + 1);
     for (now, held) in buffer[..end].iter().zip(&before) {
@@ -93,6 +129,8 @@ fn run<T: Copy + PartialEq + LowerHex>(
     out
 }
 
+/// What the live check shows after the last code point. The judge says the
+/// same of the whole text.
 fn live(numbers: &[u32]) -> String {
     let mut state = Live::fresh();
     for code in numbers {
@@ -111,12 +149,50 @@ fn live(numbers: &[u32]) -> String {
 /// A flag for every state of the live check, then those of the three ways to
 /// ask it of the whole text. Here they are one.
 fn hopes(numbers: &[u32]) -> String {
-    let flag = |hope: bool| if hope { "1" } else { "0" };
     let mut state = Live::fresh();
     let mut run = flag(state.may_become()).to_string();
     for code in numbers {
         state.step(*code);
-        run += flag(state.may_become());
+        run.push(flag(state.may_become()));
     }
-    format!("{run} {}", flag(hope::may_become(numbers)).repeat(3))
+    let whole = flag(hope::may_become(numbers)).to_string();
+    format!("{run} {}", whole.repeat(3))
+}
+
+/// What each number is, what it becomes, and what it and the next become. To
+/// ask by the table that is lent or by the library's own is one here.
+fn characters(numbers: &[u32]) -> String {
+    let next = numbers.iter().skip(1).chain([&0]);
+    words(numbers.iter().zip(next).map(|(code, next)| {
+        let japanese = chars::is_japanese(*code);
+        let flags = [
+            chars::is_letter_or_digit(*code),
+            chars::is_ascii_set(*code),
+            chars::is_kana_or_kanji(*code),
+            japanese,
+            japanese,
+        ];
+        let flags: String = flags.into_iter().map(flag).collect();
+        let joined = normal::joined(*code, *next).unwrap_or(0);
+        format!("{flags}{} {:x} {joined:x}", normal::kind(*code), normal::replaced(*code))
+    }))
+}
+
+/// Whether two lists are the same, whether the first holds each number, and
+/// a copy of the first to a buffer as long as the second.
+fn lists(end: usize, numbers: &[u32]) -> String {
+    let (first, second) = numbers.split_at(end.min(numbers.len()));
+    in_points(second.len().min(LONGEST_BUFFER), |buffer| {
+        calls::copy(first, buffer);
+        let held = numbers.iter().map(|number| flag(first.contains(number)));
+        [flag(first == second)].into_iter().chain(held).collect()
+    })
+}
+
+/// The only tab, the field from a place on by two calls, which are one here,
+/// and whether the whole is an id.
+fn fields(at: usize, line: &[u8]) -> String {
+    let tab = batch::only_tab(line).map_or("-".to_string(), |tab| tab.to_string());
+    let (start, end) = batch::field_at(line, at);
+    format!("{tab} {start} {end} {start} {end} {}", flag(batch::is_id(line)))
 }

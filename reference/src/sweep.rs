@@ -1,11 +1,12 @@
 //! The big sweeps outside the gate, as probe lines.
 
 use crate::cases::characters::{with_jp, MARKS};
+use crate::cases::kinds::IN_A_CASE;
 use crate::cases::probe_line;
 use crate::cases::random::NameMaker;
 use crate::random::Random;
 
-pub const PARTS: [&str; 5] = ["first", "second", "above", "marks", "random"];
+pub const PARTS: [&str; 6] = ["first", "second", "above", "marks", "kinds", "random"];
 
 /// The bases after which the second character is tried.
 const BASES: [u32; 2] = [0x30CF, 0x3046];
@@ -17,6 +18,7 @@ pub fn lines(part: &str) -> Option<Box<dyn Iterator<Item = String>>> {
         "second" => Box::new((0..0x30000).flat_map(second)),
         "above" => Box::new(above().flat_map(|code| first(code).into_iter().chain(second(code)))),
         "marks" => Box::new((0..0x10000).flat_map(marked)),
+        "kinds" => Box::new(kinds()),
         "random" => Box::new(random()),
         _ => return None,
     })
@@ -68,6 +70,14 @@ fn marked(code: u32) -> Vec<String> {
         [probe_line('N', 256, &text), probe_line('L', 0, &text), probe_line('M', 0, &text)]
     };
     MARKS.into_iter().flat_map(with).collect()
+}
+
+/// The calls on single characters, many to a line, and with each mark.
+fn kinds() -> impl Iterator<Item = String> {
+    let marked = (0..0x10000).flat_map(|code| [code, 0x309B, code, 0x309C]);
+    let codes: Vec<u32> = (0..0x30000).chain(above()).chain(marked).collect();
+    let lines: Vec<String> = codes.chunks(IN_A_CASE).map(|codes| probe_line('K', 0, codes)).collect();
+    lines.into_iter()
 }
 
 /// Random names as typed, each followed by a damaged copy.

@@ -2,7 +2,8 @@
 
 use reference::cases::coder::mutants;
 use reference::coder::{is_encodable, RFC};
-use reference::{cases, count, probe};
+use reference::{cases, count, normal, probe};
+use std::collections::BTreeSet;
 
 #[test]
 fn case_file_is_well_formed_and_of_bearable_size() {
@@ -12,24 +13,53 @@ fn case_file_is_well_formed_and_of_bearable_size() {
     assert!(lines.iter().all(|line| line.len() <= probe::LONGEST_LINE));
     assert!(answers.iter().all(|answer| answer != "?"));
     let size = |lines: &[String]| lines.iter().map(|line| line.len() + 1).sum::<usize>();
-    assert!(size(&lines) < 1_250_000);
+    assert!(size(&lines) < 1_600_000);
     assert!(size(&answers) < 1_500_000);
 }
 
 #[test]
 fn each_number_comes_up_a_hundred_times() {
-    let answers =
-        cases::all_lines().iter().map(|line| probe::answer(line.as_bytes()) + "\n").collect::<String>();
-    for (number, times) in count::count(&answers).into_iter().enumerate() {
+    let lines = cases::all_lines();
+    for (number, times) in counted(&lines).into_iter().enumerate() {
         assert!(times >= 100, "{number} comes up {times} times");
+    }
+}
+
+/// How often each number comes up in the answers to some lines.
+fn counted(lines: &[String]) -> [usize; count::NUMBERS] {
+    let answers: Vec<String> = lines.iter().map(|line| probe::answer(line.as_bytes())).collect();
+    count::count(lines.iter().map(String::as_str).zip(answers.iter().map(String::as_str)))
+}
+
+/// Every number that a call can answer comes up with each call that names its
+/// table itself, and with each form of the judge. 14 comes up with none.
+#[test]
+fn each_number_comes_up_with_each_call_of_its_own() {
+    let lines = cases::all_lines();
+    for call in "calJj".chars() {
+        let of_call: Vec<String> = lines.iter().filter(|line| line.starts_with(call)).cloned().collect();
+        let counts = counted(&of_call);
+        let lent = "ca".contains(call);
+        for (number, times) in counts.into_iter().enumerate() {
+            let least = match number {
+                1 if !lent => 0,
+                0 | 1 | 4 => 20,
+                2 | 3 => 1,
+                5..=12 => 8,
+                _ => 0,
+            };
+            assert!(times >= least && (times > 0) == (least > 0), "{call}: {number} comes up {times} times");
+        }
     }
 }
 
 #[test]
 fn both_classes_and_every_call_come_up_often() {
     let lines = cases::all_lines();
-    for call in "NCAESDLBM".chars() {
-        assert!(lines.iter().filter(|line| line.starts_with(call)).count() > 500, "{call}");
+    for (calls, times) in [("NCAESDLBM", 500), ("casljJPTUFW", 200), ("K", 50)] {
+        for call in calls.chars() {
+            assert!(lines.iter().filter(|line| line.starts_with(call)).count() > times, "{call}");
+        }
     }
     for class in ["0 0 G", "0 0 P"] {
         let answers = lines.iter().map(|line| probe::answer(line.as_bytes()));
@@ -76,8 +106,67 @@ fn each_bent_parameter_is_noticed_by_coder_and_decoder() {
 
 #[test]
 fn counting_knows_numbers_from_octets_and_yes_or_no() {
-    let answers = "1\n0\n11 111\n1 000\n\n4 1 - 0\n0 0 2 61 30ac\n2d 9 31 36 9 30 9 2d 9 2d a\n61 9 30 9 30 9 47 9 61 a 62 9 38 9 30 9 2d 9 2d a\n";
-    let counts = count::count(answers);
-    assert_eq!((counts[0], counts[1], counts[4], counts[8], counts[16]), (2, 0, 1, 1, 1));
-    assert_eq!(counts.iter().sum::<usize>(), 5);
+    let answered = [
+        ("S 0", "0"),
+        ("M 0", "1 111"),
+        ("B 0", ""),
+        ("C 256 20", "4 0 - 0"),
+        ("N 256 41 ff76 ff9e", "0 0 2 61 30ac"),
+        ("B 0 a", "2d 9 31 36 9 30 9 2d 9 2d a"),
+        ("B 0", "61 9 30 9 30 9 47 9 61 a 62 9 38 9 30 9 2d 9 2d a"),
+        ("W 256", "1 11 2d 9 31 36 9 30 9 2d 9 2d a"),
+        ("W 255", "0 0"),
+        ("P 1 61", "0 0"),
+        ("U 1 61", "1 1 61"),
+        ("F 0", "- 0 0 0 0 0"),
+        ("T 1 61", "01"),
+    ];
+    let counts = count::count(answered.into_iter());
+    assert_eq!((counts[0], counts[1], counts[4], counts[8], counts[16]), (2, 0, 1, 1, 2));
+    assert_eq!(counts.iter().sum::<usize>(), 6);
+}
+
+/// What a case of the smaller calls is to show.
+#[test]
+fn the_smaller_calls_say_yes_and_no() {
+    let lines = cases::all_lines();
+    let often = |call: char, begun: &str, times: usize| {
+        let of_call = lines.iter().filter(|line| line.starts_with(call));
+        let answers = of_call.map(|line| probe::answer(line.as_bytes()));
+        let found = answers.filter(|answer| answer.starts_with(begun)).count();
+        assert!(found >= times, "{call}: {begun} {found} times");
+    };
+    for (call, begun, times) in [
+        ('T', "1", 20),
+        ('T', "0", 100),
+        ('U', "1 ", 100),
+        ('U', "0 0", 100),
+        ('F', "- ", 100),
+        ('F', "1 ", 10),
+        ('W', "1 ", 100),
+        ('W', "0 0", 20),
+        ('s', "1", 50),
+        ('s', "0", 50),
+    ] {
+        often(call, begun, times);
+    }
+    let ids = lines.iter().filter(|line| line.starts_with('F'));
+    assert!(ids.filter(|line| probe::answer(line.as_bytes()).ends_with('1')).count() > 50);
+}
+
+/// Every kind of character, each answer of every flag, and every composition.
+#[test]
+fn the_characters_of_the_cases_are_of_every_kind() {
+    let lines = cases::all_lines();
+    let answers: Vec<String> = lines
+        .iter()
+        .filter(|line| line.starts_with('K'))
+        .map(|line| probe::answer(line.as_bytes()))
+        .collect();
+    let words: Vec<&str> = answers.iter().flat_map(|answer| answer.split_whitespace()).collect();
+    let kinds: BTreeSet<&str> = words.iter().step_by(3).copied().collect();
+    let known = "00000K 00000L 00000M 00000O 00000S 00000D 00000H 00011O 00111O 01000H 11000D 11000L";
+    assert_eq!(kinds, known.split(' ').collect());
+    let joined: BTreeSet<&str> = words.iter().skip(2).step_by(3).copied().collect();
+    assert_eq!(joined.len(), 1 + normal::compositions().len());
 }

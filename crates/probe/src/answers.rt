@@ -2,8 +2,12 @@
 ghost use Prim.Native.Nat.{_≤_};
 ghost use lib.ListN.{length};
 use crate::cases;
+use crate::kinds;
 use crate::lent;
+use crate::lines;
+use crate::named;
 use crate::printed;
+use crate::slices;
 use crate::streams;
 
 // N: the normal form.
@@ -16,32 +20,6 @@ fn normal_form(text: &[u32], room: usize, out: &mut [u8], from: usize) -> usize
     let r = normal::normal_form(text, buffer);
     let o = printed::put_plain(out, from, r.number, r.place, r.length);
     lent::put_codes(out, o, buffer)
-}
-
-// C: the check.
-fn check(kanji: &[u32], text: &[u32], room: usize, out: &mut [u8], from: usize) -> usize
-    requires { ⌜ room ≤ 300 ⌝ }
-{
-    let mut space = [0u32; 300];
-    let buffer = &mut space[0..room];
-    lent::fill_codes(buffer);
-    let r = names::check_with(kanji, text, buffer);
-    let class = r.class;
-    let o = printed::put_classed(out, from, r.number, r.place, class, r.length);
-    lent::put_codes(out, o, buffer)
-}
-
-// A: the whole ASCII form.
-fn to_ascii(kanji: &[u32], text: &[u32], room: usize, out: &mut [u8], from: usize) -> usize
-    requires { ⌜ room ≤ 300 ⌝ }
-{
-    let mut space = [0u8; 300];
-    let buffer = &mut space[0..room];
-    lent::fill_octets(buffer);
-    let r = names::to_ascii_with(kanji, text, buffer);
-    let class = r.class;
-    let o = printed::put_classed(out, from, r.number, r.place, class, r.length);
-    lent::put_octets(out, o, buffer)
 }
 
 // E: the coder.
@@ -66,11 +44,6 @@ fn decode(octets: &[u8], room: usize, out: &mut [u8], from: usize) -> usize
     let r = punycode::decode(octets, buffer);
     let o = printed::put_plain(out, from, r.number, r.place, r.length);
     lent::put_codes(out, o, buffer)
-}
-
-// S: the second reader.
-fn reads(kanji: &[u32], label: &[u32], out: &mut [u8], o: usize) -> usize {
-    printed::put_flag(out, o, names::reads_with(kanji, label))
 }
 
 // Puts the numbers into `octets`, and says whether all of them are octets.
@@ -106,27 +79,55 @@ fn on_octets(
         return printed::put_byte(out, o, b'?');
     }
     let n = numbers.len();
-    if call == b'D' {
-        return decode(&space[0..n], room, out, o);
+    let octets: &[u8] = &space[0..n];
+    match call {
+        b'D' => decode(octets, room, out, o),
+        b'F' => lines::fields(octets, room, out, o),
+        b'U' => lines::utf8(octets, room, out, o),
+        b'W' => lines::answer(kanji, octets, room, out, o),
+        _ => {
+            let mut reply = [0u8; 300];
+            streams::whole_batch(kanji, octets, &mut reply, out, o)
+        }
     }
-    let mut reply = [0u8; 300];
-    streams::whole_batch(kanji, &space[0..n], &mut reply, out, o)
 }
 
-// The call of a case on its numbers.
+// A call on a name. It is lent the table of kanji, or names its own.
+fn on_name(
+    kanji: &[u32],
+    call: u8,
+    own: bool,
+    text: &[u32],
+    room: usize,
+    out: &mut [u8],
+    o: usize,
+) -> usize
+    requires { ⌜ room ≤ 300 ⌝ }
+{
+    match call {
+        b'A' | b'a' => named::to_ascii(kanji, own, text, room, out, o),
+        b'C' | b'c' => named::check(kanji, own, text, room, out, o),
+        b'J' | b'j' => named::judge(kanji, own, text, out, o),
+        b'L' | b'l' => streams::live_check(kanji, own, text, out, o),
+        _ => named::reads(kanji, own, text, out, o),
+    }
+}
+
+// The call of a case on its numbers. A letter in lower case is a call that names its own table.
 fn call(kanji: &[u32], call: u8, numbers: &[u32], room: usize, out: &mut [u8], o: usize) -> usize
     requires { ⌜ room ≤ 300 ⌝ }
     requires { ⌜ length (now numbers) ≤ 2000 ⌝ }
 {
     match call {
-        b'N' => normal_form(numbers, room, out, o),
-        b'C' => check(kanji, numbers, room, out, o),
-        b'A' => to_ascii(kanji, numbers, room, out, o),
+        b'A' | b'C' | b'J' | b'L' | b'S' => on_name(kanji, call, false, numbers, room, out, o),
+        b'a' | b'c' | b'j' | b'l' | b's' => on_name(kanji, call, true, numbers, room, out, o),
+        b'B' | b'D' | b'F' | b'U' | b'W' => on_octets(kanji, call, numbers, room, out, o),
         b'E' => encode(numbers, room, out, o),
-        b'S' => reads(kanji, numbers, out, o),
-        b'L' => streams::live_check(kanji, numbers, out, o),
+        b'K' => kinds::kinds(kanji, numbers, out, o),
         b'M' => streams::hope(kanji, numbers, out, o),
-        b'B' | b'D' => on_octets(kanji, call, numbers, room, out, o),
+        b'N' => normal_form(numbers, room, out, o),
+        b'P' => slices::places(numbers, room, out, o),
+        b'T' => slices::two_lists(numbers, room, out, o),
         _ => printed::put_byte(out, o, b'?'),
     }
 }

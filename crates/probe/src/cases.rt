@@ -1,5 +1,5 @@
-// A case as a line says it: the call's letter, a space, the lent buffer's length in decimal, and then each number, in hexadecimal, with
-// a space before it. None is written with zeros in front.
+// A case as a line says it: the call's letter, a space, a length in decimal, and then each number, in hexadecimal, with a space before
+// it. None is written with zeros in front. The length is the lent buffer's; a call that is lent none may take it for an index.
 ghost use mathlib.Core.Path.{_≡_};
 ghost use Prim.Native.Nat.{_≤_};
 ghost use lib.ListN.{length};

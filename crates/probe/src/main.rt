@@ -4,8 +4,12 @@
 // `stdin` and holds what it writes to `stdout`; both are made by `reference/` (.ci/cases).
 mod answers;
 mod cases;
+mod kinds;
 mod lent;
+mod lines;
+mod named;
 mod printed;
+mod slices;
 mod streams;
 
 ghost use Prim.Native.Nat.{_≤_};

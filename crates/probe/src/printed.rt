@@ -34,6 +34,14 @@ pub(crate) fn put_flag(out: &mut [u8], o: usize, yes: bool) -> usize {
     put_byte(out, o, b'0')
 }
 
+// A space before all but the first of several.
+pub(crate) fn put_gap(out: &mut [u8], o: usize, i: usize) -> usize {
+    if i == 0 {
+        return o;
+    }
+    put_byte(out, o, b' ')
+}
+
 // The bytes of s.
 fn put_bytes(out: &mut [u8], from: usize, s: &[u8]) -> usize {
     let mut o = from;
@@ -46,7 +54,7 @@ fn put_bytes(out: &mut [u8], from: usize, s: &[u8]) -> usize {
 }
 
 // x in decimal.
-fn put_decimal(out: &mut [u8], o: usize, x: u64) -> usize {
+pub(crate) fn put_decimal(out: &mut [u8], o: usize, x: u64) -> usize {
     let mut digits = [0u8; 20];
     let k = io::decimal(x, &mut digits);
     put_bytes(out, o, &digits[..k])
@@ -82,9 +90,15 @@ fn put_class(out: &mut [u8], from: usize, class: rules::Class) -> usize {
 }
 
 // A space and the length.
-fn put_length(out: &mut [u8], from: usize, length: usize) -> usize {
+pub(crate) fn put_length(out: &mut [u8], from: usize, length: usize) -> usize {
     let o = put_byte(out, from, b' ');
     put_decimal(out, o, length as u64)
+}
+
+// Whether a call did its work, and the count it gives.
+pub(crate) fn put_counted(out: &mut [u8], from: usize, done: bool, count: usize) -> usize {
+    let o = put_flag(out, from, done);
+    put_length(out, o, count)
 }
 
 // An answer with no class.

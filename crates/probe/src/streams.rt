@@ -45,14 +45,27 @@ fn put_shown(out: &mut [u8], from: usize, form: &[u32]) -> usize {
     o
 }
 
-// L: the live check, looked at after the last code point.
-pub(crate) fn live_check(kanji: &[u32], text: &[u32], out: &mut [u8], from: usize) -> usize {
-    let state = typed(text);
-    let j = state.look_with(kanji);
+// What the judge says of a text, or a look at the live check.
+pub(crate) fn put_judged(out: &mut [u8], from: usize, j: names::Judged) -> usize {
     let class = j.class;
     let form = j.form;
     let o = printed::put_classed(out, from, j.number, j.place, class, j.length);
     put_shown(out, o, &form)
+}
+
+// L, l: the live check, looked at after the last code point, with the table of kanji lent or by its own.
+pub(crate) fn live_check(
+    kanji: &[u32],
+    own: bool,
+    text: &[u32],
+    out: &mut [u8],
+    o: usize,
+) -> usize {
+    let state = typed(text);
+    if own {
+        return put_judged(out, o, state.look());
+    }
+    put_judged(out, o, state.look_with(kanji))
 }
 
 // A flag for what is typed so far, after each code point, from none on: may it yet become a name?

@@ -85,7 +85,7 @@ fn thinned(file: &mut CaseFile) {
 }
 
 /// Where kinds of code points begin or end.
-fn edges() -> Vec<u32> {
+pub fn edges() -> Vec<u32> {
     let first_kanji = *kanji().first().expect("there are kanji");
     let last_kanji = *kanji().last().expect("there are kanji");
     vec![

@@ -10,7 +10,9 @@ pub fn add(file: &mut CaseFile) {
     line_lengths(file);
     name_lengths(file);
     control_characters(file);
-    utf8_sequences(file);
+    for sequence in utf8_sequences() {
+        file.batch(&[b"u\t", &sequence[..], b".jp\n"].concat());
+    }
     random_lines(file);
 }
 
@@ -96,15 +98,16 @@ fn control_characters(file: &mut CaseFile) {
     }
 }
 
-/// Well-formed and ill-formed UTF-8 of every kind, as the name.
-fn utf8_sequences(file: &mut CaseFile) {
+/// Well-formed and ill-formed UTF-8 of every kind.
+pub fn utf8_sequences() -> Vec<Vec<u8>> {
+    let mut sequences = Vec::new();
     for first in 0x80..=0xFFu8 {
         for tail in [&[][..], &[0x80], &[0xA0, 0x80], &[0x90, 0x80, 0x80], &[0x8F, 0xBF, 0xBF], &[0x9F, 0xBF]]
         {
             if first < 0xC0 && !tail.is_empty() || first > 0xF5 && tail.len() > 1 && first != 0xFF {
                 continue;
             }
-            name_octets(file, &[&[first], tail].concat());
+            sequences.push([&[first], tail].concat());
         }
     }
     for second in [0x00, 0x7F, 0x80, 0x8F, 0x90, 0x9F, 0xA0, 0xBF, 0xC0, 0xFF] {
@@ -118,21 +121,15 @@ fn utf8_sequences(file: &mut CaseFile) {
             };
             let mut sequence = vec![first, second, 0x81, 0xBF];
             sequence.truncate(length);
-            name_octets(file, &sequence);
+            sequences.push(sequence);
         }
     }
     for third in [0x2E, 0x7F, 0xC0, 0xE3] {
-        name_octets(file, &[0xE3, 0x81, third]);
-        name_octets(file, &[0xF0, 0x9F, 0x98, third]);
-        name_octets(file, &[0xF0, 0x9F, third, 0x80]);
+        sequences.push(vec![0xE3, 0x81, third]);
+        sequences.push(vec![0xF0, 0x9F, 0x98, third]);
+        sequences.push(vec![0xF0, 0x9F, third, 0x80]);
     }
-}
-
-fn name_octets(file: &mut CaseFile, octets: &[u8]) {
-    let mut line = b"u\t".to_vec();
-    line.extend(octets);
-    line.extend(b".jp\n");
-    file.batch(&line);
+    sequences
 }
 
 /// A text in UTF-8; code points that have none are left out.

@@ -5,8 +5,12 @@ pub mod characters;
 pub mod coder;
 pub mod desk;
 pub mod hope;
+pub mod kinds;
 pub mod lines;
+pub mod lists;
 pub mod names;
+pub mod octets;
+pub mod own;
 pub mod random;
 pub mod tried;
 
@@ -105,5 +109,9 @@ pub fn all_lines() -> Vec<String> {
     desk::add(&mut file);
     random::add(&mut file);
     hope::add(&mut file);
+    own::add(&mut file);
+    kinds::add(&mut file);
+    lists::add(&mut file);
+    octets::add(&mut file);
     file.into_lines()
 }

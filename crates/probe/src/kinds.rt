@@ -1,0 +1,63 @@
+// The calls on single characters.
+ghost use Prim.Native.Nat.{_<_};
+ghost use lib.ListN.{length};
+use crate::printed::put_byte;
+use crate::printed::put_flag;
+use crate::printed::put_gap;
+use crate::printed::put_hex;
+
+// The letter of a code point's replacement class.
+fn class_letter(c: u32) -> u8 {
+    let class = characters::class_of(c);
+    match class {
+        characters::Replacement::Letter => b'L',
+        characters::Replacement::Digit => b'D',
+        characters::Replacement::Hyphen => b'H',
+        characters::Replacement::Separator => b'S',
+        characters::Replacement::HalfKana => b'K',
+        characters::Replacement::Mark => b'M',
+        characters::Replacement::Other => b'O',
+    }
+}
+
+// What a code point is: a flag for each call that says so.
+fn put_flags(kanji: &[u32], c: u32, out: &mut [u8], from: usize) -> usize {
+    let mut o = put_flag(out, from, characters::is_alnum(c));
+    o = put_flag(out, o, characters::is_ascii(c));
+    o = put_flag(out, o, characters::is_kana_or_kanji(kanji, c));
+    o = put_flag(out, o, characters::is_japanese(kanji, c));
+    put_flag(out, o, characters::japanese_at(c))
+}
+
+// All that is said of a code point, and what it and the next become.
+fn put_kind(kanji: &[u32], c: u32, next: u32, out: &mut [u8], from: usize) -> usize {
+    let mut o = put_flags(kanji, c, out, from);
+    o = put_byte(out, o, class_letter(c));
+    o = put_byte(out, o, b' ');
+    o = put_hex(out, o, characters::replaced(c));
+    o = put_byte(out, o, b' ');
+    put_hex(out, o, characters::joined(c, next))
+}
+
+// The number after the one at i, or 0.
+fn after(numbers: &[u32], i: usize) -> u32
+    requires { ⌜ i < length (now numbers) ⌝ }
+{
+    let k = i + 1;
+    if k < numbers.len() {
+        return numbers[k];
+    }
+    0
+}
+
+// K: what each number is.
+pub(crate) fn kinds(kanji: &[u32], numbers: &[u32], out: &mut [u8], from: usize) -> usize {
+    let mut o = from;
+    let mut i: usize = 0;
+    while i < numbers.len() {
+        o = put_gap(out, o, i);
+        o = put_kind(kanji, numbers[i], after(numbers, i), out, o);
+        i += 1;
+    }
+    o
+}

@@ -1,0 +1,52 @@
+// The batch's calls on a line: UTF-8, the fields, the answer.
+ghost use Prim.Native.Nat.{_≤_};
+use crate::lent;
+use crate::printed;
+
+// U: the code points of UTF-8.
+pub(crate) fn utf8(octets: &[u8], room: usize, out: &mut [u8], from: usize) -> usize
+    requires { ⌜ room ≤ 300 ⌝ }
+{
+    let mut space = [0u32; 300];
+    let buffer = &mut space[0..room];
+    lent::fill_codes(buffer);
+    let r = batch::utf8::decode(octets, buffer);
+    let o = printed::put_counted(out, from, r.ok, r.count);
+    lent::put_codes(out, o, buffer)
+}
+
+// W: the answer to a line.
+pub(crate) fn answer(kanji: &[u32], line: &[u8], room: usize, out: &mut [u8], from: usize) -> usize
+    requires { ⌜ room ≤ 300 ⌝ }
+{
+    let mut space = [0u8; 300];
+    let buffer = &mut space[0..room];
+    lent::fill_octets(buffer);
+    let r = batch::answer::answer(kanji, line, buffer);
+    let o = printed::put_counted(out, from, r.done, r.length);
+    lent::put_octets(out, o, buffer)
+}
+
+// Where the only tab is, or -.
+fn put_tab(out: &mut [u8], o: usize, parts: batch::fields::Parts) -> usize {
+    match parts {
+        batch::fields::Parts::Two(tab) => printed::put_decimal(out, o, tab as u64),
+        batch::fields::Parts::Other => printed::put_byte(out, o, b'-'),
+    }
+}
+
+// Where a field starts and ends, a space before each.
+fn put_field(out: &mut [u8], from: usize, field: batch::fields::Stretch) -> usize {
+    let o = printed::put_length(out, from, field.start);
+    printed::put_length(out, o, field.end)
+}
+
+// F: the fields of a line, the field from `at` on by two calls, and whether the whole is an id. `field_from` goes by a line reader, with
+// the three calls on one.
+pub(crate) fn fields(line: &[u8], at: usize, out: &mut [u8], from: usize) -> usize {
+    let mut o = put_tab(out, from, batch::fields::split(line));
+    o = put_field(out, o, batch::fields::field_at(line, at));
+    o = put_field(out, o, batch::fields::field_from(line, at));
+    o = printed::put_byte(out, o, b' ');
+    printed::put_flag(out, o, batch::fields::is_id(line))
+}

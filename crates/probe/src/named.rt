@@ -1,0 +1,79 @@
+// The calls on a name. Each has two forms: one is lent the table of kanji, the other, its own, names it itself.
+ghost use Prim.Native.Nat.{_≤_};
+use crate::lent;
+use crate::printed;
+use crate::streams;
+
+fn checked(kanji: &[u32], own: bool, text: &[u32], buffer: &mut [u32]) -> names::Checked {
+    if own {
+        return names::check(text, buffer);
+    }
+    names::check_with(kanji, text, buffer)
+}
+
+// C, c: the check.
+pub(crate) fn check(
+    kanji: &[u32],
+    own: bool,
+    text: &[u32],
+    room: usize,
+    out: &mut [u8],
+    from: usize,
+) -> usize
+    requires { ⌜ room ≤ 300 ⌝ }
+{
+    let mut space = [0u32; 300];
+    let buffer = &mut space[0..room];
+    lent::fill_codes(buffer);
+    let r = checked(kanji, own, text, buffer);
+    let class = r.class;
+    let o = printed::put_classed(out, from, r.number, r.place, class, r.length);
+    lent::put_codes(out, o, buffer)
+}
+
+fn in_ascii(kanji: &[u32], own: bool, text: &[u32], buffer: &mut [u8]) -> names::Checked {
+    if own {
+        return names::to_ascii(text, buffer);
+    }
+    names::to_ascii_with(kanji, text, buffer)
+}
+
+// A, a: the whole ASCII form.
+pub(crate) fn to_ascii(
+    kanji: &[u32],
+    own: bool,
+    text: &[u32],
+    room: usize,
+    out: &mut [u8],
+    from: usize,
+) -> usize
+    requires { ⌜ room ≤ 300 ⌝ }
+{
+    let mut space = [0u8; 300];
+    let buffer = &mut space[0..room];
+    lent::fill_octets(buffer);
+    let r = in_ascii(kanji, own, text, buffer);
+    let class = r.class;
+    let o = printed::put_classed(out, from, r.number, r.place, class, r.length);
+    lent::put_octets(out, o, buffer)
+}
+
+// S, s: the second reader.
+pub(crate) fn reads(kanji: &[u32], own: bool, label: &[u32], out: &mut [u8], o: usize) -> usize {
+    if own {
+        return printed::put_flag(out, o, names::reads(label));
+    }
+    printed::put_flag(out, o, names::reads_with(kanji, label))
+}
+
+fn judged(kanji: &[u32], own: bool, text: &[u32]) -> names::Judged {
+    if own {
+        return names::judge(text);
+    }
+    names::judge_with(kanji, text)
+}
+
+// J, j: the judge.
+pub(crate) fn judge(kanji: &[u32], own: bool, text: &[u32], out: &mut [u8], o: usize) -> usize {
+    streams::put_judged(out, o, judged(kanji, own, text))
+}
