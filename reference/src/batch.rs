@@ -38,12 +38,15 @@ pub fn only_tab(line: &[u8]) -> Option<usize> {
     }
 }
 
-/// Start and end of the field from a place on: it ends at a tab or with the
-/// line. Past the line it is empty.
-pub fn field_at(line: &[u8], at: usize) -> (usize, usize) {
+/// Start and end of the field from a place on, and where reading goes on. It
+/// ends at a tab, past which reading goes on, or with the line. Past the line
+/// it is empty.
+pub fn field_at(line: &[u8], at: usize) -> [usize; 3] {
     let rest = line.get(at..).unwrap_or_default();
-    let length = rest.iter().position(|byte| *byte == b'\t').unwrap_or(rest.len());
-    (at, at + length)
+    match rest.iter().position(|byte| *byte == b'\t') {
+        Some(length) => [at, at + length, at + length + 1],
+        None => [at, at + rest.len(), at + rest.len()],
+    }
 }
 
 pub fn is_id(id: &[u8]) -> bool {

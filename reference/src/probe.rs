@@ -189,10 +189,12 @@ fn lists(end: usize, numbers: &[u32]) -> String {
     })
 }
 
-/// The only tab, the field from a place on by two calls, which are one here,
-/// and whether the whole is an id.
+/// The only tab, the field from a place on, the first field and the one where
+/// reading goes on, and whether the whole is an id.
 fn fields(at: usize, line: &[u8]) -> String {
     let tab = batch::only_tab(line).map_or("-".to_string(), |tab| tab.to_string());
-    let (start, end) = batch::field_at(line, at);
-    format!("{tab} {start} {end} {start} {end} {}", flag(batch::is_id(line)))
+    let first = batch::field_at(line, 0);
+    let second = batch::field_at(line, first[2]);
+    let places = words([batch::field_at(line, at), first, second].into_iter().flatten());
+    format!("{tab} {places} {}", flag(batch::is_id(line)))
 }

@@ -22,7 +22,7 @@ pub(crate) fn answer(kanji: &[u32], line: &[u8], room: usize, out: &mut [u8], fr
     let mut space = [0u8; 300];
     let buffer = &mut space[0..room];
     lent::fill_octets(buffer);
-    let r = batch::answer::answer(kanji, line, buffer);
+    let r = batch::answer::answer_with(kanji, line, buffer);
     let o = printed::put_counted(out, from, r.done, r.length);
     lent::put_octets(out, o, buffer)
 }
@@ -35,18 +35,21 @@ fn put_tab(out: &mut [u8], o: usize, parts: batch::fields::Parts) -> usize {
     }
 }
 
-// Where a field starts and ends, a space before each.
+// Where a field starts and ends, and where reading goes on, a space before each.
 fn put_field(out: &mut [u8], from: usize, field: batch::fields::Stretch) -> usize {
-    let o = printed::put_length(out, from, field.start);
-    printed::put_length(out, o, field.end)
+    let a = printed::put_length(out, from, field.start);
+    let b = printed::put_length(out, a, field.end);
+    printed::put_length(out, b, field.next)
 }
 
-// F: the fields of a line, the field from `at` on by two calls, and whether the whole is an id. `field_from` goes by a line reader, with
-// the three calls on one.
+// F: the fields of a line, the field from `at` on, the first two by one line reader, and whether the whole is an id. `fields` goes by the
+// two calls on a reader.
 pub(crate) fn fields(line: &[u8], at: usize, out: &mut [u8], from: usize) -> usize {
     let mut o = put_tab(out, from, batch::fields::split(line));
     o = put_field(out, o, batch::fields::field_at(line, at));
-    o = put_field(out, o, batch::fields::field_from(line, at));
+    let both = batch::fields::fields(line);
+    o = put_field(out, o, both.id);
+    o = put_field(out, o, both.name);
     o = printed::put_byte(out, o, b' ');
     printed::put_flag(out, o, batch::fields::is_id(line))
 }

@@ -89,7 +89,7 @@ fn run(kanji: &[u32], buf: &mut [u8], line: &mut [u8], out: &mut [u8]) {
 
 // The table of kanji is named once, here. A line has at most 4,000 bytes, so one that fills `line` is too long.
 fn main() {
-    let kanji = characters::KANJI;
+    let kanji = characters::kanji_bits();
     let mut buf = io::large_buffer();
     let mut line = [0u8; 4001];
     let mut out = io::large_buffer();

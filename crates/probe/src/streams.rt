@@ -154,12 +154,12 @@ pub(crate) fn whole_batch(
     let mut at: usize = 0;
     while at < octets.len() {
         let e = piece_end(octets, at);
-        let f = batch::stream::feed(kanji, line, &octets[at..e], reply);
+        let f = batch::stream::feed_with(kanji, line, &octets[at..e], reply);
         o = put_reply(out, o, reply, f.wrote, first);
         first = first && f.wrote == 0;
         at = piece_next(octets, at, e, f.used);
         line = f.line;
     }
-    let f = batch::stream::finish(kanji, line, reply);
+    let f = batch::stream::finish_with(kanji, line, reply);
     put_reply(out, o, reply, f.wrote, first)
 }

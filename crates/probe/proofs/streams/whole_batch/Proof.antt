@@ -22,17 +22,17 @@ loop-holds c = search needs
 piece-end-requires : tie.Need-piece-end-requires Inv-loop μ-loop
 piece-end-requires c κs = search needs
 
-sub-feed : tie.Need-sub-feed Inv-loop μ-loop
-sub-feed c = search needs
+sub-feed-with : tie.Need-sub-feed-with Inv-loop μ-loop
+sub-feed-with c = search needs
 
-part-feed-start : tie.Need-part-feed-start Inv-loop μ-loop
-part-feed-start c = search needs
+part-feed-with-start : tie.Need-part-feed-with-start Inv-loop μ-loop
+part-feed-with-start c = search needs
 
-part-feed-end : tie.Need-part-feed-end Inv-loop μ-loop
-part-feed-end c = search needs
+part-feed-with-end : tie.Need-part-feed-with-end Inv-loop μ-loop
+part-feed-with-end c = search needs
 
-feed-requires : tie.Need-feed-requires Inv-loop μ-loop
-feed-requires c κs = search needs
+feed-with-requires : tie.Need-feed-with-requires Inv-loop μ-loop
+feed-with-requires c κs = search needs
 
 put-reply-requires : tie.Need-put-reply-requires Inv-loop μ-loop
 put-reply-requires c κs = search needs
@@ -46,8 +46,8 @@ loop-less c = search needs
 loop-again : tie.Need-loop-again Inv-loop μ-loop
 loop-again c = search needs
 
-finish-requires : tie.Need-finish-requires Inv-loop μ-loop
-finish-requires c κs = search needs
+finish-with-requires : tie.Need-finish-with-requires Inv-loop μ-loop
+finish-with-requires c κs = search needs
 
 put-reply-requires-2 : tie.Need-put-reply-requires-2 Inv-loop μ-loop
 put-reply-requires-2 c κs = search needs
@@ -70,15 +70,15 @@ whole-batch-spec =
     new-requires
     loop-holds
     piece-end-requires
-    sub-feed
-    part-feed-start
-    part-feed-end
-    feed-requires
+    sub-feed-with
+    part-feed-with-start
+    part-feed-with-end
+    feed-with-requires
     put-reply-requires
     piece-next-requires
     loop-less
     loop-again
-    finish-requires
+    finish-with-requires
     put-reply-requires-2
     same-length
     same-length-2
