@@ -27,551 +27,153 @@ abbrev μ-after-character : Measures 2 after-character-kinds.ps ℕ
 abbrev μ-after-hyphen : Measures 2 after-hyphen-kinds.ps ℕ
 μ-after-hyphen κs a = length (a .1 .0 .now)
 
-abbrev after-character-at : ℕ → In 2 after-character-kinds.ps
-after-character-at t =
-    and
-    2
-    after-character-kinds.ps
-    (is 2 after-character-kinds.ps μ-after-character t)
-    after-character.Pre
+-- where the label that is left has the length t
+module _ (t : ℕ) where
+  abbrev after-character-at : In 2 after-character-kinds.ps
+  after-character-at = and 2 after-character-kinds.ps (is 2 after-character-kinds.ps μ-after-character t) after-character.Pre
 
-abbrev after-character-below : ℕ → In 2 after-character-kinds.ps
-after-character-below t =
-    and
-    2
-    after-character-kinds.ps
-    (falls 2 after-character-kinds.ps _<_ μ-after-character t)
-    after-character.Pre
+  abbrev after-character-below : In 2 after-character-kinds.ps
+  after-character-below = and 2 after-character-kinds.ps (falls 2 after-character-kinds.ps _<_ μ-after-character t) after-character.Pre
 
-abbrev after-hyphen-at : ℕ → In 2 after-hyphen-kinds.ps
-after-hyphen-at t =
-    and 2 after-hyphen-kinds.ps (is 2 after-hyphen-kinds.ps μ-after-hyphen t) after-hyphen.Pre
+  abbrev after-hyphen-at : In 2 after-hyphen-kinds.ps
+  after-hyphen-at = and 2 after-hyphen-kinds.ps (is 2 after-hyphen-kinds.ps μ-after-hyphen t) after-hyphen.Pre
 
-abbrev after-hyphen-below : ℕ → In 2 after-hyphen-kinds.ps
-after-hyphen-below t =
-    and
-    2
-    after-hyphen-kinds.ps
-    (falls 2 after-hyphen-kinds.ps _<_ μ-after-hyphen t)
-    after-hyphen.Pre
+  abbrev after-hyphen-below : In 2 after-hyphen-kinds.ps
+  after-hyphen-below = and 2 after-hyphen-kinds.ps (falls 2 after-hyphen-kinds.ps _<_ μ-after-hyphen t) after-hyphen.Pre
 
-after-character-may-end-requires : (t : ℕ) → after-character-lts.Need-may-end-requires (
-  may-end-reads.Asked,
-  may-end-reads.Learnt,
-  skipped-reads.Asked,
-  skipped-reads.Learnt,
-  after-hyphen-below t,
-  after-hyphen.Post,
-  in-label-reads.Asked,
-  in-label-reads.Learnt,
-  noted-reads.Asked,
-  noted-reads.Learnt,
-  after-character-below t,
-  after-character.Post,
-) (after-character-at t) after-character.Post
-after-character-may-end-requires t c κs = search needs
+  -- what is known of the functions that each of the two calls
+  abbrev character-claims : after-character-lts.Claims
+  character-claims = (
+    may-end-reads.Asked,
+    may-end-reads.Learnt,
+    skipped-reads.Asked,
+    skipped-reads.Learnt,
+    after-hyphen-below,
+    after-hyphen.Post,
+    in-label-reads.Asked,
+    in-label-reads.Learnt,
+    noted-reads.Asked,
+    noted-reads.Learnt,
+    after-character-below,
+    after-character.Post,
+  )
 
-after-character-returns : (t : ℕ) → after-character-lts.Need-returns (
-  may-end-reads.Asked,
-  may-end-reads.Learnt,
-  skipped-reads.Asked,
-  skipped-reads.Learnt,
-  after-hyphen-below t,
-  after-hyphen.Post,
-  in-label-reads.Asked,
-  in-label-reads.Learnt,
-  noted-reads.Asked,
-  noted-reads.Learnt,
-  after-character-below t,
-  after-character.Post,
-) (after-character-at t) after-character.Post
-after-character-returns t c = none-character _ _ _ (c .before .if1 .taken) (c .may-end .ensures)
+  abbrev hyphen-claims : after-hyphen-lts.Claims
+  hyphen-claims = (
+    skipped-reads.Asked,
+    skipped-reads.Learnt,
+    after-hyphen-below,
+    after-hyphen.Post,
+    in-label-reads.Asked,
+    in-label-reads.Learnt,
+    noted-reads.Asked,
+    noted-reads.Learnt,
+    after-character-below,
+    after-character.Post,
+  )
 
-after-character-shared-slice-read-x : (t : ℕ) → after-character-lts.Need-shared-slice-read-x (
-  may-end-reads.Asked,
-  may-end-reads.Learnt,
-  skipped-reads.Asked,
-  skipped-reads.Learnt,
-  after-hyphen-below t,
-  after-hyphen.Post,
-  in-label-reads.Asked,
-  in-label-reads.Learnt,
-  noted-reads.Asked,
-  noted-reads.Learnt,
-  after-character-below t,
-  after-character.Post,
-) (after-character-at t) after-character.Post
-after-character-shared-slice-read-x t c = search needs
+  after-character-may-end-requires : after-character-lts.Need-may-end-requires character-claims after-character-at after-character.Post
+  after-character-may-end-requires c κs = search needs
 
-after-character-sub-after-hyphen : (t : ℕ) → after-character-lts.Need-sub-after-hyphen (
-  may-end-reads.Asked,
-  may-end-reads.Learnt,
-  skipped-reads.Asked,
-  skipped-reads.Learnt,
-  after-hyphen-below t,
-  after-hyphen.Post,
-  in-label-reads.Asked,
-  in-label-reads.Learnt,
-  noted-reads.Asked,
-  noted-reads.Learnt,
-  after-character-below t,
-  after-character.Post,
-) (after-character-at t) after-character.Post
-after-character-sub-after-hyphen t c = search needs
+  after-character-returns : after-character-lts.Need-returns character-claims after-character-at after-character.Post
+  after-character-returns c = none-character _ _ _ (c .before .if1 .taken) (c .may-end .ensures)
 
-after-character-part-after-hyphen-start :
-    (t : ℕ) → after-character-lts.Need-part-after-hyphen-start (
-      may-end-reads.Asked,
-      may-end-reads.Learnt,
-      skipped-reads.Asked,
-      skipped-reads.Learnt,
-      after-hyphen-below t,
-      after-hyphen.Post,
-      in-label-reads.Asked,
-      in-label-reads.Learnt,
-      noted-reads.Asked,
-      noted-reads.Learnt,
-      after-character-below t,
-      after-character.Post,
-    ) (after-character-at t) after-character.Post
-after-character-part-after-hyphen-start t c = search needs
+  after-character-shared-slice-read-x : after-character-lts.Need-shared-slice-read-x character-claims after-character-at after-character.Post
+  after-character-shared-slice-read-x c = search needs
 
-after-character-part-after-hyphen-end : (t : ℕ) → after-character-lts.Need-part-after-hyphen-end (
-  may-end-reads.Asked,
-  may-end-reads.Learnt,
-  skipped-reads.Asked,
-  skipped-reads.Learnt,
-  after-hyphen-below t,
-  after-hyphen.Post,
-  in-label-reads.Asked,
-  in-label-reads.Learnt,
-  noted-reads.Asked,
-  noted-reads.Learnt,
-  after-character-below t,
-  after-character.Post,
-) (after-character-at t) after-character.Post
-after-character-part-after-hyphen-end t c = search needs
+  after-character-sub-after-hyphen : after-character-lts.Need-sub-after-hyphen character-claims after-character-at after-character.Post
+  after-character-sub-after-hyphen c = search needs
 
-after-character-skipped-requires : (t : ℕ) → after-character-lts.Need-skipped-requires (
-  may-end-reads.Asked,
-  may-end-reads.Learnt,
-  skipped-reads.Asked,
-  skipped-reads.Learnt,
-  after-hyphen-below t,
-  after-hyphen.Post,
-  in-label-reads.Asked,
-  in-label-reads.Learnt,
-  noted-reads.Asked,
-  noted-reads.Learnt,
-  after-character-below t,
-  after-character.Post,
-) (after-character-at t) after-character.Post
-after-character-skipped-requires t c κs = search needs
+  after-character-part-after-hyphen-start : after-character-lts.Need-part-after-hyphen-start character-claims after-character-at after-character.Post
+  after-character-part-after-hyphen-start c = search needs
 
-after-character-after-hyphen-requires : (t : ℕ) → after-character-lts.Need-after-hyphen-requires (
-  may-end-reads.Asked,
-  may-end-reads.Learnt,
-  skipped-reads.Asked,
-  skipped-reads.Learnt,
-  after-hyphen-below t,
-  after-hyphen.Post,
-  in-label-reads.Asked,
-  in-label-reads.Learnt,
-  noted-reads.Asked,
-  noted-reads.Learnt,
-  after-character-below t,
-  after-character.Post,
-) (after-character-at t) after-character.Post
-after-character-after-hyphen-requires t c κs = omega (arith, skip-count _ (c .skipped .ensures))
+  after-character-part-after-hyphen-end : after-character-lts.Need-part-after-hyphen-end character-claims after-character-at after-character.Post
+  after-character-part-after-hyphen-end c = search needs
 
-after-character-returns-2 : (t : ℕ) → after-character-lts.Need-returns-2 (
-  may-end-reads.Asked,
-  may-end-reads.Learnt,
-  skipped-reads.Asked,
-  skipped-reads.Learnt,
-  after-hyphen-below t,
-  after-hyphen.Post,
-  in-label-reads.Asked,
-  in-label-reads.Learnt,
-  noted-reads.Asked,
-  noted-reads.Learnt,
-  after-character-below t,
-  after-character.Post,
-) (after-character-at t) after-character.Post
-after-character-returns-2 t c = to-hyphen _ _ _ (c .before .before .before .before .before .if1 .left) (c .before .before .before .if2 .taken) (c .before .skipped .ensures) (c .after-hyphen .ensures)
+  after-character-skipped-requires : after-character-lts.Need-skipped-requires character-claims after-character-at after-character.Post
+  after-character-skipped-requires c κs = search needs
 
-after-character-in-label-requires : (t : ℕ) → after-character-lts.Need-in-label-requires (
-  may-end-reads.Asked,
-  may-end-reads.Learnt,
-  skipped-reads.Asked,
-  skipped-reads.Learnt,
-  after-hyphen-below t,
-  after-hyphen.Post,
-  in-label-reads.Asked,
-  in-label-reads.Learnt,
-  noted-reads.Asked,
-  noted-reads.Learnt,
-  after-character-below t,
-  after-character.Post,
-) (after-character-at t) after-character.Post
-after-character-in-label-requires t c κs = search needs
+  after-character-after-hyphen-requires : after-character-lts.Need-after-hyphen-requires character-claims after-character-at after-character.Post
+  after-character-after-hyphen-requires c κs = omega (arith, skip-count _ (c .skipped .ensures))
 
-after-character-sub-after-character : (t : ℕ) → after-character-lts.Need-sub-after-character (
-  may-end-reads.Asked,
-  may-end-reads.Learnt,
-  skipped-reads.Asked,
-  skipped-reads.Learnt,
-  after-hyphen-below t,
-  after-hyphen.Post,
-  in-label-reads.Asked,
-  in-label-reads.Learnt,
-  noted-reads.Asked,
-  noted-reads.Learnt,
-  after-character-below t,
-  after-character.Post,
-) (after-character-at t) after-character.Post
-after-character-sub-after-character t c = search needs
+  after-character-returns-2 : after-character-lts.Need-returns-2 character-claims after-character-at after-character.Post
+  after-character-returns-2 c = to-hyphen _ _ _ (c .before .before .before .before .before .if1 .left) (c .before .before .before .if2 .taken) (c .before .skipped .ensures) (c .after-hyphen .ensures)
 
-after-character-part-after-character-start :
-    (t : ℕ) → after-character-lts.Need-part-after-character-start (
-      may-end-reads.Asked,
-      may-end-reads.Learnt,
-      skipped-reads.Asked,
-      skipped-reads.Learnt,
-      after-hyphen-below t,
-      after-hyphen.Post,
-      in-label-reads.Asked,
-      in-label-reads.Learnt,
-      noted-reads.Asked,
-      noted-reads.Learnt,
-      after-character-below t,
-      after-character.Post,
-    ) (after-character-at t) after-character.Post
-after-character-part-after-character-start t c = search needs
+  after-character-in-label-requires : after-character-lts.Need-in-label-requires character-claims after-character-at after-character.Post
+  after-character-in-label-requires c κs = search needs
 
-after-character-part-after-character-end :
-    (t : ℕ) → after-character-lts.Need-part-after-character-end (
-      may-end-reads.Asked,
-      may-end-reads.Learnt,
-      skipped-reads.Asked,
-      skipped-reads.Learnt,
-      after-hyphen-below t,
-      after-hyphen.Post,
-      in-label-reads.Asked,
-      in-label-reads.Learnt,
-      noted-reads.Asked,
-      noted-reads.Learnt,
-      after-character-below t,
-      after-character.Post,
-    ) (after-character-at t) after-character.Post
-after-character-part-after-character-end t c = search needs
+  after-character-sub-after-character : after-character-lts.Need-sub-after-character character-claims after-character-at after-character.Post
+  after-character-sub-after-character c = search needs
 
-after-character-noted-requires : (t : ℕ) → after-character-lts.Need-noted-requires (
-  may-end-reads.Asked,
-  may-end-reads.Learnt,
-  skipped-reads.Asked,
-  skipped-reads.Learnt,
-  after-hyphen-below t,
-  after-hyphen.Post,
-  in-label-reads.Asked,
-  in-label-reads.Learnt,
-  noted-reads.Asked,
-  noted-reads.Learnt,
-  after-character-below t,
-  after-character.Post,
-) (after-character-at t) after-character.Post
-after-character-noted-requires t c κs = search needs
+  after-character-part-after-character-start : after-character-lts.Need-part-after-character-start character-claims after-character-at after-character.Post
+  after-character-part-after-character-start c = search needs
 
-after-character-after-character-requires :
-    (t : ℕ) → after-character-lts.Need-after-character-requires (
-      may-end-reads.Asked,
-      may-end-reads.Learnt,
-      skipped-reads.Asked,
-      skipped-reads.Learnt,
-      after-hyphen-below t,
-      after-hyphen.Post,
-      in-label-reads.Asked,
-      in-label-reads.Learnt,
-      noted-reads.Asked,
-      noted-reads.Learnt,
-      after-character-below t,
-      after-character.Post,
-    ) (after-character-at t) after-character.Post
-after-character-after-character-requires t c κs = omega (arith, note-count _ _ _ (c .noted .ensures))
+  after-character-part-after-character-end : after-character-lts.Need-part-after-character-end character-claims after-character-at after-character.Post
+  after-character-part-after-character-end c = search needs
 
-after-character-returns-3 : (t : ℕ) → after-character-lts.Need-returns-3 (
-  may-end-reads.Asked,
-  may-end-reads.Learnt,
-  skipped-reads.Asked,
-  skipped-reads.Learnt,
-  after-hyphen-below t,
-  after-hyphen.Post,
-  in-label-reads.Asked,
-  in-label-reads.Learnt,
-  noted-reads.Asked,
-  noted-reads.Learnt,
-  after-character-below t,
-  after-character.Post,
-) (after-character-at t) after-character.Post
-after-character-returns-3 t c = to-character _ _ _ (c .before .before .before .before .before .before .before .if1 .left) (c .before .before .before .before .before .if2 .left) (c .before .before .before .before .in-label .ensures) (c .before .before .before .if3 .taken) (c .before .noted .ensures) (c .after-character .ensures)
+  after-character-noted-requires : after-character-lts.Need-noted-requires character-claims after-character-at after-character.Post
+  after-character-noted-requires c κs = search needs
 
-after-character-returns-4 : (t : ℕ) → after-character-lts.Need-returns-4 (
-  may-end-reads.Asked,
-  may-end-reads.Learnt,
-  skipped-reads.Asked,
-  skipped-reads.Learnt,
-  after-hyphen-below t,
-  after-hyphen.Post,
-  in-label-reads.Asked,
-  in-label-reads.Learnt,
-  noted-reads.Asked,
-  noted-reads.Learnt,
-  after-character-below t,
-  after-character.Post,
-) (after-character-at t) after-character.Post
-after-character-returns-4 t c = unread _ _ _ (c .before .before .before .before .if1 .left) (c .before .before .if2 .left) (c .before .in-label .ensures) (c .if3 .left)
+  after-character-after-character-requires : after-character-lts.Need-after-character-requires character-claims after-character-at after-character.Post
+  after-character-after-character-requires c κs = omega (arith, note-count _ _ _ (c .noted .ensures))
 
-after-hyphen-returns : (t : ℕ) → after-hyphen-lts.Need-returns (
-  skipped-reads.Asked,
-  skipped-reads.Learnt,
-  after-hyphen-below t,
-  after-hyphen.Post,
-  in-label-reads.Asked,
-  in-label-reads.Learnt,
-  noted-reads.Asked,
-  noted-reads.Learnt,
-  after-character-below t,
-  after-character.Post,
-) (after-hyphen-at t) after-hyphen.Post
-after-hyphen-returns t c = none-hyphen _ _ _ (c .if1 .taken)
+  after-character-returns-3 : after-character-lts.Need-returns-3 character-claims after-character-at after-character.Post
+  after-character-returns-3 c = to-character _ _ _ (c .before .before .before .before .before .before .before .if1 .left) (c .before .before .before .before .before .if2 .left) (c .before .before .before .before .in-label .ensures) (c .before .before .before .if3 .taken) (c .before .noted .ensures) (c .after-character .ensures)
 
-after-hyphen-shared-slice-read-x : (t : ℕ) → after-hyphen-lts.Need-shared-slice-read-x (
-  skipped-reads.Asked,
-  skipped-reads.Learnt,
-  after-hyphen-below t,
-  after-hyphen.Post,
-  in-label-reads.Asked,
-  in-label-reads.Learnt,
-  noted-reads.Asked,
-  noted-reads.Learnt,
-  after-character-below t,
-  after-character.Post,
-) (after-hyphen-at t) after-hyphen.Post
-after-hyphen-shared-slice-read-x t c = search needs
+  after-character-returns-4 : after-character-lts.Need-returns-4 character-claims after-character-at after-character.Post
+  after-character-returns-4 c = unread _ _ _ (c .before .before .before .before .if1 .left) (c .before .before .if2 .left) (c .before .in-label .ensures) (c .if3 .left)
 
-after-hyphen-sub-after-hyphen : (t : ℕ) → after-hyphen-lts.Need-sub-after-hyphen (
-  skipped-reads.Asked,
-  skipped-reads.Learnt,
-  after-hyphen-below t,
-  after-hyphen.Post,
-  in-label-reads.Asked,
-  in-label-reads.Learnt,
-  noted-reads.Asked,
-  noted-reads.Learnt,
-  after-character-below t,
-  after-character.Post,
-) (after-hyphen-at t) after-hyphen.Post
-after-hyphen-sub-after-hyphen t c = search needs
+  after-hyphen-returns : after-hyphen-lts.Need-returns hyphen-claims after-hyphen-at after-hyphen.Post
+  after-hyphen-returns c = none-hyphen _ _ _ (c .if1 .taken)
 
-after-hyphen-part-after-hyphen-start : (t : ℕ) → after-hyphen-lts.Need-part-after-hyphen-start (
-  skipped-reads.Asked,
-  skipped-reads.Learnt,
-  after-hyphen-below t,
-  after-hyphen.Post,
-  in-label-reads.Asked,
-  in-label-reads.Learnt,
-  noted-reads.Asked,
-  noted-reads.Learnt,
-  after-character-below t,
-  after-character.Post,
-) (after-hyphen-at t) after-hyphen.Post
-after-hyphen-part-after-hyphen-start t c = search needs
+  after-hyphen-shared-slice-read-x : after-hyphen-lts.Need-shared-slice-read-x hyphen-claims after-hyphen-at after-hyphen.Post
+  after-hyphen-shared-slice-read-x c = search needs
 
-after-hyphen-part-after-hyphen-end : (t : ℕ) → after-hyphen-lts.Need-part-after-hyphen-end (
-  skipped-reads.Asked,
-  skipped-reads.Learnt,
-  after-hyphen-below t,
-  after-hyphen.Post,
-  in-label-reads.Asked,
-  in-label-reads.Learnt,
-  noted-reads.Asked,
-  noted-reads.Learnt,
-  after-character-below t,
-  after-character.Post,
-) (after-hyphen-at t) after-hyphen.Post
-after-hyphen-part-after-hyphen-end t c = search needs
+  after-hyphen-sub-after-hyphen : after-hyphen-lts.Need-sub-after-hyphen hyphen-claims after-hyphen-at after-hyphen.Post
+  after-hyphen-sub-after-hyphen c = search needs
 
-after-hyphen-skipped-requires : (t : ℕ) → after-hyphen-lts.Need-skipped-requires (
-  skipped-reads.Asked,
-  skipped-reads.Learnt,
-  after-hyphen-below t,
-  after-hyphen.Post,
-  in-label-reads.Asked,
-  in-label-reads.Learnt,
-  noted-reads.Asked,
-  noted-reads.Learnt,
-  after-character-below t,
-  after-character.Post,
-) (after-hyphen-at t) after-hyphen.Post
-after-hyphen-skipped-requires t c κs = search needs
+  after-hyphen-part-after-hyphen-start : after-hyphen-lts.Need-part-after-hyphen-start hyphen-claims after-hyphen-at after-hyphen.Post
+  after-hyphen-part-after-hyphen-start c = search needs
 
-after-hyphen-after-hyphen-requires : (t : ℕ) → after-hyphen-lts.Need-after-hyphen-requires (
-  skipped-reads.Asked,
-  skipped-reads.Learnt,
-  after-hyphen-below t,
-  after-hyphen.Post,
-  in-label-reads.Asked,
-  in-label-reads.Learnt,
-  noted-reads.Asked,
-  noted-reads.Learnt,
-  after-character-below t,
-  after-character.Post,
-) (after-hyphen-at t) after-hyphen.Post
-after-hyphen-after-hyphen-requires t c κs = omega (arith, skip-count _ (c .skipped .ensures))
+  after-hyphen-part-after-hyphen-end : after-hyphen-lts.Need-part-after-hyphen-end hyphen-claims after-hyphen-at after-hyphen.Post
+  after-hyphen-part-after-hyphen-end c = search needs
 
-after-hyphen-returns-2 : (t : ℕ) → after-hyphen-lts.Need-returns-2 (
-  skipped-reads.Asked,
-  skipped-reads.Learnt,
-  after-hyphen-below t,
-  after-hyphen.Post,
-  in-label-reads.Asked,
-  in-label-reads.Learnt,
-  noted-reads.Asked,
-  noted-reads.Learnt,
-  after-character-below t,
-  after-character.Post,
-) (after-hyphen-at t) after-hyphen.Post
-after-hyphen-returns-2 t c = to-hyphen _ _ _ (c .before .before .before .before .before .if1 .left) (c .before .before .before .if2 .taken) (c .before .skipped .ensures) (c .after-hyphen .ensures) ∙ alike _ _ _ (c .before .before .before .before .before .if1 .left)
+  after-hyphen-skipped-requires : after-hyphen-lts.Need-skipped-requires hyphen-claims after-hyphen-at after-hyphen.Post
+  after-hyphen-skipped-requires c κs = search needs
 
-after-hyphen-in-label-requires : (t : ℕ) → after-hyphen-lts.Need-in-label-requires (
-  skipped-reads.Asked,
-  skipped-reads.Learnt,
-  after-hyphen-below t,
-  after-hyphen.Post,
-  in-label-reads.Asked,
-  in-label-reads.Learnt,
-  noted-reads.Asked,
-  noted-reads.Learnt,
-  after-character-below t,
-  after-character.Post,
-) (after-hyphen-at t) after-hyphen.Post
-after-hyphen-in-label-requires t c κs = search needs
+  after-hyphen-after-hyphen-requires : after-hyphen-lts.Need-after-hyphen-requires hyphen-claims after-hyphen-at after-hyphen.Post
+  after-hyphen-after-hyphen-requires c κs = omega (arith, skip-count _ (c .skipped .ensures))
 
-after-hyphen-sub-after-character : (t : ℕ) → after-hyphen-lts.Need-sub-after-character (
-  skipped-reads.Asked,
-  skipped-reads.Learnt,
-  after-hyphen-below t,
-  after-hyphen.Post,
-  in-label-reads.Asked,
-  in-label-reads.Learnt,
-  noted-reads.Asked,
-  noted-reads.Learnt,
-  after-character-below t,
-  after-character.Post,
-) (after-hyphen-at t) after-hyphen.Post
-after-hyphen-sub-after-character t c = search needs
+  after-hyphen-returns-2 : after-hyphen-lts.Need-returns-2 hyphen-claims after-hyphen-at after-hyphen.Post
+  after-hyphen-returns-2 c = to-hyphen _ _ _ (c .before .before .before .before .before .if1 .left) (c .before .before .before .if2 .taken) (c .before .skipped .ensures) (c .after-hyphen .ensures) ∙ alike _ _ _ (c .before .before .before .before .before .if1 .left)
 
-after-hyphen-part-after-character-start :
-    (t : ℕ) → after-hyphen-lts.Need-part-after-character-start (
-      skipped-reads.Asked,
-      skipped-reads.Learnt,
-      after-hyphen-below t,
-      after-hyphen.Post,
-      in-label-reads.Asked,
-      in-label-reads.Learnt,
-      noted-reads.Asked,
-      noted-reads.Learnt,
-      after-character-below t,
-      after-character.Post,
-    ) (after-hyphen-at t) after-hyphen.Post
-after-hyphen-part-after-character-start t c = search needs
+  after-hyphen-in-label-requires : after-hyphen-lts.Need-in-label-requires hyphen-claims after-hyphen-at after-hyphen.Post
+  after-hyphen-in-label-requires c κs = search needs
 
-after-hyphen-part-after-character-end : (t : ℕ) → after-hyphen-lts.Need-part-after-character-end (
-  skipped-reads.Asked,
-  skipped-reads.Learnt,
-  after-hyphen-below t,
-  after-hyphen.Post,
-  in-label-reads.Asked,
-  in-label-reads.Learnt,
-  noted-reads.Asked,
-  noted-reads.Learnt,
-  after-character-below t,
-  after-character.Post,
-) (after-hyphen-at t) after-hyphen.Post
-after-hyphen-part-after-character-end t c = search needs
+  after-hyphen-sub-after-character : after-hyphen-lts.Need-sub-after-character hyphen-claims after-hyphen-at after-hyphen.Post
+  after-hyphen-sub-after-character c = search needs
 
-after-hyphen-noted-requires : (t : ℕ) → after-hyphen-lts.Need-noted-requires (
-  skipped-reads.Asked,
-  skipped-reads.Learnt,
-  after-hyphen-below t,
-  after-hyphen.Post,
-  in-label-reads.Asked,
-  in-label-reads.Learnt,
-  noted-reads.Asked,
-  noted-reads.Learnt,
-  after-character-below t,
-  after-character.Post,
-) (after-hyphen-at t) after-hyphen.Post
-after-hyphen-noted-requires t c κs = search needs
+  after-hyphen-part-after-character-start : after-hyphen-lts.Need-part-after-character-start hyphen-claims after-hyphen-at after-hyphen.Post
+  after-hyphen-part-after-character-start c = search needs
 
-after-hyphen-after-character-requires : (t : ℕ) → after-hyphen-lts.Need-after-character-requires (
-  skipped-reads.Asked,
-  skipped-reads.Learnt,
-  after-hyphen-below t,
-  after-hyphen.Post,
-  in-label-reads.Asked,
-  in-label-reads.Learnt,
-  noted-reads.Asked,
-  noted-reads.Learnt,
-  after-character-below t,
-  after-character.Post,
-) (after-hyphen-at t) after-hyphen.Post
-after-hyphen-after-character-requires t c κs = omega (arith, note-count _ _ _ (c .noted .ensures))
+  after-hyphen-part-after-character-end : after-hyphen-lts.Need-part-after-character-end hyphen-claims after-hyphen-at after-hyphen.Post
+  after-hyphen-part-after-character-end c = search needs
 
-after-hyphen-returns-3 : (t : ℕ) → after-hyphen-lts.Need-returns-3 (
-  skipped-reads.Asked,
-  skipped-reads.Learnt,
-  after-hyphen-below t,
-  after-hyphen.Post,
-  in-label-reads.Asked,
-  in-label-reads.Learnt,
-  noted-reads.Asked,
-  noted-reads.Learnt,
-  after-character-below t,
-  after-character.Post,
-) (after-hyphen-at t) after-hyphen.Post
-after-hyphen-returns-3 t c = to-character _ _ _ (c .before .before .before .before .before .before .before .if1 .left) (c .before .before .before .before .before .if2 .left) (c .before .before .before .before .in-label .ensures) (c .before .before .before .if3 .taken) (c .before .noted .ensures) (c .after-character .ensures) ∙ alike _ _ _ (c .before .before .before .before .before .before .before .if1 .left)
+  after-hyphen-noted-requires : after-hyphen-lts.Need-noted-requires hyphen-claims after-hyphen-at after-hyphen.Post
+  after-hyphen-noted-requires c κs = search needs
 
-after-hyphen-returns-4 : (t : ℕ) → after-hyphen-lts.Need-returns-4 (
-  skipped-reads.Asked,
-  skipped-reads.Learnt,
-  after-hyphen-below t,
-  after-hyphen.Post,
-  in-label-reads.Asked,
-  in-label-reads.Learnt,
-  noted-reads.Asked,
-  noted-reads.Learnt,
-  after-character-below t,
-  after-character.Post,
-) (after-hyphen-at t) after-hyphen.Post
-after-hyphen-returns-4 t c = unread _ _ _ (c .before .before .before .before .if1 .left) (c .before .before .if2 .left) (c .before .in-label .ensures) (c .if3 .left) ∙ alike _ _ _ (c .before .before .before .before .if1 .left)
+  after-hyphen-after-character-requires : after-hyphen-lts.Need-after-character-requires hyphen-claims after-hyphen-at after-hyphen.Post
+  after-hyphen-after-character-requires c κs = omega (arith, note-count _ _ _ (c .noted .ensures))
+
+  after-hyphen-returns-3 : after-hyphen-lts.Need-returns-3 hyphen-claims after-hyphen-at after-hyphen.Post
+  after-hyphen-returns-3 c = to-character _ _ _ (c .before .before .before .before .before .before .before .if1 .left) (c .before .before .before .before .before .if2 .left) (c .before .before .before .before .in-label .ensures) (c .before .before .before .if3 .taken) (c .before .noted .ensures) (c .after-character .ensures) ∙ alike _ _ _ (c .before .before .before .before .before .before .before .if1 .left)
+
+  after-hyphen-returns-4 : after-hyphen-lts.Need-returns-4 hyphen-claims after-hyphen-at after-hyphen.Post
+  after-hyphen-returns-4 c = unread _ _ _ (c .before .before .before .before .if1 .left) (c .before .before .if2 .left) (c .before .in-label .ensures) (c .if3 .left) ∙ alike _ _ _ (c .before .before .before .before .if1 .left)
 
 pub +after-character+after-hyphen-spec : {M : Type 1} → statement M
 +after-character+after-hyphen-spec =
-    close μ-after-character μ-after-hyphen (λ t. after-character-lts.spec (
-      may-end-reads.Asked,
-      may-end-reads.Learnt,
-      skipped-reads.Asked,
-      skipped-reads.Learnt,
-      after-hyphen-below t,
-      after-hyphen.Post,
-      in-label-reads.Asked,
-      in-label-reads.Learnt,
-      noted-reads.Asked,
-      noted-reads.Learnt,
-      after-character-below t,
-      after-character.Post,
-    )
+    close μ-after-character μ-after-hyphen (λ t. after-character-lts.spec (character-claims t)
     (after-character-at t)
     after-character.Post
     (after-character-may-end-requires t)
@@ -591,18 +193,7 @@ pub +after-character+after-hyphen-spec : {M : Type 1} → statement M
     (after-character-after-character-requires t)
     (after-character-returns-3 t)
     (after-character-returns-4 t))
-    λ t. after-hyphen-lts.spec (
-      skipped-reads.Asked,
-      skipped-reads.Learnt,
-      after-hyphen-below t,
-      after-hyphen.Post,
-      in-label-reads.Asked,
-      in-label-reads.Learnt,
-      noted-reads.Asked,
-      noted-reads.Learnt,
-      after-character-below t,
-      after-character.Post,
-    )
+    λ t. after-hyphen-lts.spec (hyphen-claims t)
     (after-hyphen-at t)
     after-hyphen.Post
     (after-hyphen-returns t)
