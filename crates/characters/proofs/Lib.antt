@@ -2,7 +2,6 @@ pub mod Ranges
 pub mod Classes
 pub mod Bounds
 pub mod Bits
-pub mod Stretches
 pub mod Lent
 pub mod Pairs
 pub mod Count

@@ -45,7 +45,3 @@ kanjiWith table c = within 0x4E00 0x9FA0 c && bitSet (getD table ((c - 0x4E00) /
 
 unfoldable pub japaneseWith : List ℕ → ℕ → Bool
 japaneseWith table c = japaneseBy (kanjiWith table) c
-
--- the same without the signs
-unfoldable pub kanaOrKanjiWith : List ℕ → ℕ → Bool
-kanaOrKanjiWith table c = hiragana c || (katakana c || kanjiWith table c)

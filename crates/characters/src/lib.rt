@@ -10,7 +10,7 @@ ghost use Prim.Native.Nat.{_+_, _<_};
 ghost use lib.Dec.{ltb};
 ghost use lib.ListN.{getD};
 ghost use Rattle.lists.specs.Tests.{pick, within, elem};
-ghost use Rattle.characters.specs.Characters.{alnum, asciiSet, signs, japanese, bitSet, kanjiWith, kanaOrKanjiWith, japaneseWith};
+ghost use Rattle.characters.specs.Characters.{alnum, asciiSet, signs, japanese, bitSet, kanjiWith, japaneseWith};
 ghost use Rattle.characters.specs.KanjiBits.{kanjiBits};
 ghost use Rattle.characters.specs.Replace.{halfKana, classOf, replace};
 ghost use Rattle.characters.specs.Compose.{composed};
@@ -91,19 +91,6 @@ fn is_kanji(kanji: &[u32], c: u32) -> bool
     false
 }
 
-// Hiragana, katakana or a kanji, by a lent table: a Japanese character that is no sign?
-pub fn is_kana_or_kanji_with(kanji: &[u32], c: u32) -> bool
-    ensures { λ r. ⌜ r ≡ kanaOrKanjiWith (now (kanji .entry)) c ⌝ }
-{
-    if between(0x3041, 0x3093, c) {
-        return true;
-    }
-    if between(0x30A1, 0x30F6, c) {
-        return true;
-    }
-    is_kanji(kanji, c)
-}
-
 // A Japanese character, by a lent table of kanji? Below 3003 there is none; the signs come last, being the rarest.
 pub fn is_japanese_with(kanji: &[u32], c: u32) -> bool
     ensures { λ r. ⌜ r ≡ japaneseWith (now (kanji .entry)) c ⌝ }
@@ -111,7 +98,13 @@ pub fn is_japanese_with(kanji: &[u32], c: u32) -> bool
     if c < 0x3003 {
         return false;
     }
-    if is_kana_or_kanji_with(kanji, c) {
+    if between(0x3041, 0x3093, c) {
+        return true;
+    }
+    if between(0x30A1, 0x30F6, c) {
+        return true;
+    }
+    if is_kanji(kanji, c) {
         return true;
     }
     is_sign(c)

@@ -1,8 +1,8 @@
 -- The usual name, a plain label and ".jp": a plain character is its own replacement, no mark, no period and no middle dot, so the text
--- is its own normal form, its labels are the two, and only 7 to 9 and 14 can apply.
+-- is its own normal form, its labels are the two, and only 7 to 9 can apply; that 14 never comes (proofs/Coded) is not needed.
 -- Assumes nothing.
 use mathlib.Core.Path.{_≡_, refl, sym, ap, _∙_}
-use mathlib.Core.Bool.{Bool, true, false, not, _&&_, _||_, or-false, and-true}
+use mathlib.Core.Bool.{Bool, true, false, not, _&&_, _||_, or-false, and-true, and-false}
 use mathlib.Core.List.{List, [], _∷_, _++_}
 use Prim.Native.Nat.{ℕ, suc, _+_, _-_, _≤_, _<_}
 use native.Mathlib.Numerals.{add-one, add-two}
@@ -11,15 +11,15 @@ use lib.Dec.{eqb}
 use lib.ListN.{length, take, drop, getD, set, length-append, take-append-drop, drop-of-length-le}
 use lib.Seq.{drop-cons}
 use borrow.Author.Tests.{eq-eqb, ne-eqb, not-true, not-false}
-use Rattle.lists.specs.Tests.{within, allOf, anyOf, same}
+use Rattle.lists.specs.Tests.{within, allOf, anyOf, elem, same}
 use Rattle.lists.specs.Front.{written}
-use Rattle.lists.proofs.Laws.{either, both, or-left, or-right, clash, inside, outside, in-range, all-append, all-weaker, all-none, same-refl, same-is}
+use Rattle.lists.proofs.Laws.{either, both, or-right, clash, inside, outside, in-range, all-append, all-weaker, all-none, same-refl, same-is}
 use Rattle.lists.proofs.Pieces.{then}
 use Rattle.lists.specs.Rows.{Clear}
-use Rattle.characters.specs.Characters.{alnum, hyphen, asciiSet, hiragana, katakana, kanjiWith, kanaOrKanjiWith}
+use Rattle.characters.specs.Characters.{alnum, hyphen, asciiSet, hiragana, katakana, signs, japaneseBy, kanjiWith, japaneseWith}
 use Rattle.characters.specs.Replace.{ranges, rangeIn, isHalf, replaceIn, replace}
 use Rattle.characters.proofs.Classes.{stays, ascii-stays}
-use Rattle.characters.proofs.Stretches.{by-stretch, no-sign}
+use Rattle.characters.proofs.Bounds.{with-bounds}
 use Rattle.normal.specs.Normal.{normalForm}
 use Rattle.normal.proofs.Unchanged.{unchanged, unchanged-by, unchanged-form}
 use Rattle.rules.specs.Labels.{period, onto, labels, join}
@@ -28,7 +28,6 @@ use Rattle.rules.specs.Rules.{unfit, middleDot, isJapanese, bareDot, jp, textRo
 use Rattle.rules.specs.Editions.{todayWith}
 use Rattle.rules.specs.declared.Class.the-variants.{General}
 use Rattle.rules.specs.declared.Verdict.{Verdict}
-use Rattle.rules.proofs.Sound.{ascii-range}
 use Rattle.rules.proofs.Cuts.{labels-cut}
 use Rattle.rules.proofs.Steps.{text-on, name-left, name-0}
 use Rattle.names.specs.Calls.{asciiLabel, asciiForm, uncoded, AsciiForms}
@@ -43,52 +42,47 @@ use Rattle.names.proofs.OfName.{two-filled}
 
 -- ---- a plain character
 
-module _ (table : List ℕ) (c : ℕ) where
-  -- below 3041 there is no kana and no kanji, and from there on nothing of the ASCII set
-  pub plain-below : {a : Bool} → c < 0x3041 → a ≡ asciiSet c → a ≡ plain table c
-  unfolding plain
-  plain-below h e = e ∙ go (kanaOrKanjiWith table c) refl
-    where
-      go : (k : Bool) → kanaOrKanjiWith table c ≡ k → asciiSet c ≡ asciiSet c || kanaOrKanjiWith table c
-      go true p = absurd (by-stretch table c p (λ r. omega arith) (λ r. omega arith) (λ r. omega arith))
-      go false p = rw p (sym (or-false (asciiSet c)))
+module _ (P : Permits) (c : ℕ) where
+  pub plain-dotted : c ≡ 0x30FB → false ≡ plain P c
+  unfolding plain middleDot
+  plain-dotted e = rw (eq-eqb c 0x30FB e) (sym (and-false (labelChar P c)))
 
-  pub plain-above : {k : Bool} → 0x3041 ≤ c → k ≡ kanaOrKanjiWith table c → k ≡ plain table c
-  unfolding plain
-  plain-above h e = e ∙ go (asciiSet c) refl
-    where
-      go : (a : Bool) → asciiSet c ≡ a → kanaOrKanjiWith table c ≡ asciiSet c || kanaOrKanjiWith table c
-      go true p = absurd (let r = ascii-range c p in omega arith)
-      go false p = rw p
+  pub plain-other : {f : Bool} → (c ≡ 0x30FB → ⊥) → f ≡ labelChar P c → f ≡ plain P c
+  unfolding plain middleDot
+  plain-other h e = e ∙ rw (ne-eqb c 0x30FB h) (sym (and-true (labelChar P c)))
 
-  -- the period, the marks and the middle dot are not plain
-  differs : (v : ℕ) → plain table v ≡ false → plain table c ≡ true → c ≡ v → ⊥
-  differs v n e z = clash e (ap (plain table) z ∙ n)
+  module _ (e : plain P c ≡ true) where
+    plain-parts : (labelChar P c ≡ true) × (not (middleDot c) ≡ true)
+    unfolding plain
+    plain-parts = both (labelChar P c) (not (middleDot c)) e
 
-  module _ (e : plain table c ≡ true) where
-    plain-period : period c ≡ false
-    unfolding period plain asciiSet alnum hyphen kanaOrKanjiWith hiragana katakana kanjiWith within
-    plain-period = ne-eqb c 0x2E (differs 0x2E refl e)
+    plain-fit : labelChar P c ≡ true
+    plain-fit = plain-parts .0
 
     plain-dot : middleDot c ≡ false
-    unfolding middleDot plain asciiSet alnum hyphen kanaOrKanjiWith hiragana katakana kanjiWith within
-    plain-dot = ne-eqb c 0x30FB (differs 0x30FB refl e)
+    plain-dot = not-true (middleDot c) (plain-parts .1)
 
-    kept : c ≡ replace c
-    unfolding plain
-    kept =
-        either (asciiSet c) (kanaOrKanjiWith table c) e (ascii-stays c)
-        (λ k. by-stretch table c k (λ r. stays c (omega arith) (omega arith)) (λ r. stays c (omega arith) (omega arith)) (λ r. stays c (omega arith) (omega arith)))
+-- the period and the marks are not plain, and "jp" is
+tried : (table : List ℕ) → let f = plain (todayWith table) in (f 0x2E ≡ false) × (f 0x309B ≡ false) × (f 0x309C ≡ false) × (allOf f jp ≡ true)
+unfolding allOf plain labelChar todayWith japaneseWith japaneseBy hiragana katakana kanjiWith elem anyOf signs asciiSet alnum hyphen within middleDot jp
+tried table = (refl, refl, refl, refl)
 
-    plain-unchanged : unchanged c ≡ true
-    unfolding plain asciiSet alnum hyphen kanaOrKanjiWith hiragana katakana kanjiWith within
-    plain-unchanged = unchanged-by c kept (differs 0x309B refl e) (differs 0x309C refl e)
+module _ (table : List ℕ) (c : ℕ) (e : plain (todayWith table) c ≡ true) where
+  differs : (v : ℕ) → plain (todayWith table) v ≡ false → c ≡ v → ⊥
+  differs v n z = clash e (ap (plain (todayWith table)) z ∙ n)
 
-    plain-fit : labelChar (todayWith table) c ≡ true
-    unfolding plain labelChar todayWith
-    plain-fit =
-        either (asciiSet c) (kanaOrKanjiWith table c) e (λ p. or-right (todayWith table .japanese c) (asciiSet c) p)
-        (λ p. or-left (todayWith table .japanese c) (asciiSet c) (sym (no-sign table c refl p)))
+  plain-period : period c ≡ false
+  unfolding period
+  plain-period = ne-eqb c 0x2E (differs 0x2E (tried table .0))
+
+  kept : c ≡ replace c
+  unfolding labelChar todayWith
+  kept =
+      either (japaneseWith table c) (asciiSet c) (plain-fit (todayWith table) c e)
+      (λ j. let r = in-range 0x3003 0x9FA0 c (with-bounds table c j) in stays c (omega arith) (omega arith)) (ascii-stays c)
+
+  plain-unchanged : unchanged c ≡ true
+  plain-unchanged = unchanged-by c kept (differs 0x309B (tried table .1)) (differs 0x309C (tried table .2))
 
 -- ---- ".jp" at the end of a text
 
@@ -142,9 +136,9 @@ module _ (text : List ℕ) where
         let z : length text - 3 - 0 ≡ length text - 3 = omega arith in
         rw (z, ← same-is (drop (length text - 3) text) dotJp (ending .1)) (take-append-drop (length text - 3) text)
 
-    pub plain-label : (table : List ℕ) → allOf (plain table) before-jp ≡ true → PlainLabel table before-jp
+    pub plain-label : (P : Permits) → allOf (plain P) before-jp ≡ true → PlainLabel P before-jp
     unfolding jp
-    plain-label table a =
+    plain-label P a =
         let s = ending-sizes in
         let n : length before-jp + 3 ≡ length text = sym (length-append before-jp dotJp) ∙ ap length whole in
         record { fit = a; some = omega arith; few = omega arith }
@@ -155,22 +149,18 @@ module _ (text : List ℕ) where
 
 -- ---- the text
 
-module _ (table label : List ℕ) (w : PlainLabel table label) where
+module _ (table label : List ℕ) (w : PlainLabel (todayWith table) label) where
   abbrev P : Permits
   P = todayWith table
 
   abbrev text : List ℕ
   text = label ++ dotJp
 
-  jp-plain : allOf (plain table) jp ≡ true
-  unfolding allOf plain asciiSet alnum within jp
-  jp-plain = refl
-
   -- what holds of a plain character and of the period holds of each
-  throughout : (f : ℕ → Bool) → ((c : ℕ) → plain table c ≡ true → f c ≡ true) → f 0x2E ≡ true → allOf f text ≡ true
+  throughout : (f : ℕ → Bool) → ((c : ℕ) → plain P c ≡ true → f c ≡ true) → f 0x2E ≡ true → allOf f text ≡ true
   unfolding allOf
   throughout f imp d =
-      all-append f label dotJp ∙ rw (all-weaker (plain table) f imp label (w .fit), d) (all-weaker (plain table) f imp jp jp-plain)
+      all-append f label dotJp ∙ rw (all-weaker (plain P) f imp label (w .fit), d) (all-weaker (plain P) f imp jp (tried table .3))
 
   form-is : normalForm text ≡ text
   unfolding unchanged replace replaceIn isHalf ranges rangeIn within
@@ -178,17 +168,17 @@ module _ (table label : List ℕ) (w : PlainLabel table label) where
 
   labels-are : labels (normalForm text) ≡ label ∷ jp ∷ []
   unfolding labels onto period jp
-  labels-are = ap labels form-is ∙ labels-cut label jp (all-none (plain table) period (plain-period table) label (w .fit))
+  labels-are = ap labels form-is ∙ labels-cut label jp (all-none (plain P) period (plain-period table) label (w .fit))
 
   label-fit : allOf (labelChar P) label ≡ true
-  label-fit = all-weaker (plain table) (labelChar P) (plain-fit table) label (w .fit)
+  label-fit = all-weaker (plain P) (labelChar P) (plain-fit P) label (w .fit)
 
   all-fit : anyOf (unfit P) (normalForm text) ≡ false
   unfolding unfit period
   all-fit =
       ap (anyOf (unfit P)) form-is
       ∙ all-none (λ (c : ℕ). period c || labelChar P c) (unfit P) (λ c e. ap not e) text
-      (throughout (λ (c : ℕ). period c || labelChar P c) (λ c e. or-right (period c) (labelChar P c) (plain-fit table c e)) refl)
+      (throughout (λ (c : ℕ). period c || labelChar P c) (λ c e. or-right (period c) (labelChar P c) (plain-fit P c e)) refl)
 
   ruled : rules P text ≡ byLabels P (label ∷ jp ∷ [])
   unfolding jp
@@ -202,11 +192,11 @@ module _ (table label : List ℕ) (w : PlainLabel table label) where
 
   no-dots : bareDot P label ≡ false
   unfolding bareDot
-  no-dots = rw (all-none (plain table) middleDot (plain-dot table) label (w .fit))
+  no-dots = rw (all-none (plain P) middleDot (plain-dot P) label (w .fit))
 
   jp-ascii : isJapanese P jp ≡ false
   unfolding anyOf wide jp
-  jp-ascii = sym (wide-fit table jp refl (all-weaker (plain table) (labelChar P) (plain-fit table) jp jp-plain))
+  jp-ascii = sym (wide-fit table jp refl (all-weaker (plain P) (labelChar P) (plain-fit P) jp (tried table .3)))
 
   -- ---- what is said of it
 

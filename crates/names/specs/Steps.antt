@@ -8,10 +8,9 @@ use lib.ListN.{length, take, drop}
 use Rattle.lists.specs.Tests.{pick, within, allOf, same}
 use Rattle.lists.specs.Front.{written, Puts}
 use Rattle.lists.specs.Rows.{Row, row, first}
-use Rattle.characters.specs.Characters.{asciiSet, kanaOrKanjiWith}
 use Rattle.rules.specs.Labels.{labels}
-use Rattle.rules.specs.Permits.{Permits}
-use Rattle.rules.specs.Rules.{isJapanese, hyphenEdge, labelRows, jp, nameRows, verdict, rules}
+use Rattle.rules.specs.Permits.{Permits, labelChar}
+use Rattle.rules.specs.Rules.{middleDot, isJapanese, hyphenEdge, labelRows, jp, nameRows, verdict, rules}
 use Rattle.rules.specs.Hopeful.{begins}
 use Rattle.rules.specs.declared.Class.the-variants.{None}
 use Rattle.rules.specs.declared.Verdict.{Verdict}
@@ -96,13 +95,13 @@ pub record TriesOne (takes : Bool) (piece before after : List ℕ) (at : ℕ) (r
 
 -- ---- the usual name: a plain label and ".jp"
 
--- of the ASCII set, kana or a kanji: what the normal form leaves as it is, and what may stand in a label
-unfoldable pub plain : List ℕ → ℕ → Bool
-plain table c = asciiSet c || kanaOrKanjiWith table c
+-- what may stand in a label, but the middle dot: the normal form leaves it as it is, and rule 10 does not ask of it
+unfoldable pub plain : Permits → ℕ → Bool
+plain P c = labelChar P c && not (middleDot c)
 
 -- one to which ".jp" can be put
-pub record PlainLabel (table label : List ℕ) : Type 0 where
-  pub fit : allOf (plain table) label ≡ true
+pub record PlainLabel (P : Permits) (label : List ℕ) : Type 0 where
+  pub fit : allOf (plain P) label ≡ true
   pub some : 1 ≤ length label
   pub few : length label ≤ 253
 

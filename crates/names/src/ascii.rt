@@ -128,9 +128,10 @@ fn by_form(kanji: &[u32], text: &[u32], out: &mut [u8]) -> Checked
     }
 }
 
-// The ASCII form of a plain label and ".jp": that is its own normal form, only 7 to 9 and 14 can apply to it, and what is put stays.
+// The ASCII form of a plain label and ".jp": that is its own normal form, only 7 to 9 can apply to it, and what is put stays. Row 14 is
+// answered as the contract lists it, though it never comes (proofs/Coded).
 fn under_jp(kanji: &[u32], label: &[u32], out: &mut [u8]) -> Checked
-    requires { ⌜ PlainLabel (now kanji) (now label) × (192 ≤ length (now out)) ⌝ }
+    requires { ⌜ PlainLabel (todayWith (now kanji)) (now label) × (192 ≤ length (now out)) ⌝ }
     ensures { λ r. ⌜ AsciiForms (todayWith (now (kanji .entry))) (now (label .entry) ++ dotJp) (now (out .entry)) (now (out .exit)) r ⌝ }
 {
     let number = edge_and_length(label);

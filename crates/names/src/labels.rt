@@ -237,19 +237,19 @@ pub(crate) fn ends_in_jp(text: &[u32]) -> bool
     text[m + 2] == 0x70
 }
 
-// Of the ASCII set, kana or a kanji? The ASCII set stands below 3041, and nothing of the others does.
+// May a label hold c, and is it no middle dot?
 fn is_plain(kanji: &[u32], c: u32) -> bool
-    ensures { λ r. ⌜ r ≡ plain (now (kanji .entry)) c ⌝ }
+    ensures { λ r. ⌜ r ≡ plain (todayWith (now (kanji .entry))) c ⌝ }
 {
-    if c < 0x3041 {
-        return characters::is_ascii(c);
+    if c == MIDDLE_DOT {
+        return false;
     }
-    characters::is_kana_or_kanji_with(kanji, c)
+    in_label(kanji, c)
 }
 
 // Is every character plain? Then the label is its own normal form, and each may stand there.
 pub(crate) fn all_plain(kanji: &[u32], label: &[u32]) -> bool
-    ensures { λ r. ⌜ r ≡ allOf (plain (now (kanji .entry))) (now (label .entry)) ⌝ }
+    ensures { λ r. ⌜ r ≡ allOf (plain (todayWith (now (kanji .entry)))) (now (label .entry)) ⌝ }
 {
     let mut i = 0;
     while i < label.len() {

@@ -7,13 +7,14 @@ use lib.ListN.{length, drop}
 use borrow.Author.Tests.{not-true, not-false}
 use Rattle.lists.specs.Tests.{allOf}
 use Rattle.lists.proofs.Scan.{all-here, all-on, all-end}
+use Rattle.rules.specs.Editions.{todayWith}
 use Rattle.names.specs.Steps.{plain}
 use borrow.Author.Needs.{needs}
 use Rattle.names.proofs.labels.all_plain.Statement.{statement}
 use Rattle.names.proofs.labels.all_plain.Tie as tie
 
 abbrev Inv-loop : tie.InvT-loop
-Inv-loop kanji label i₀ i = (i ≤ length label) × (allOf (plain kanji) label ≡ allOf (plain kanji) (drop i label))
+Inv-loop kanji label i₀ i = (i ≤ length label) × (allOf (plain (todayWith kanji)) label ≡ allOf (plain (todayWith kanji)) (drop i label))
 
 abbrev μ-loop : tie.MeasureT-loop
 μ-loop kanji label i₀ i = length label - i

@@ -1,21 +1,18 @@
--- `is_plain` meets its contract: below 3041 stands the ASCII set and no kana or kanji, from there on nothing of the ASCII set.
+-- `is_plain` meets its contract: the middle dot is passed over before it is asked what a label may hold.
 -- Assumes nothing.
-use Rattle.names.proofs.Usual.{plain-below, plain-above}
+use Rattle.names.proofs.Usual.{plain-dotted, plain-other}
 use borrow.Author.Needs.{needs}
 use Rattle.names.proofs.labels.is_plain.Statement.{statement}
 use Rattle.names.proofs.labels.is_plain.Tie as tie
 
-is-ascii-requires : tie.Need-is-ascii-requires
-is-ascii-requires c κs = search needs
-
 returns : tie.Need-returns
-returns c = plain-below _ _ (c .before .if1 .taken) (c .is-ascii .ensures)
+returns c = plain-dotted _ _ (c .if1 .taken)
 
-is-kana-or-kanji-with-requires : tie.Need-is-kana-or-kanji-with-requires
-is-kana-or-kanji-with-requires c κs = search needs
+in-label-requires : tie.Need-in-label-requires
+in-label-requires c κs = search needs
 
 returns-2 : tie.Need-returns-2
-returns-2 c = plain-above _ _ (c .before .if1 .left) (c .is-kana-or-kanji-with .ensures)
+returns-2 c = plain-other _ _ (c .before .if1 .left) (c .in-label .ensures)
 
 pub is-plain-spec : {M : Type 1} → statement M
-is-plain-spec = tie.close (tie.spec is-ascii-requires returns is-kana-or-kanji-with-requires returns-2)
+is-plain-spec = tie.close (tie.spec returns in-label-requires returns-2)
