@@ -7,14 +7,14 @@ use mathlib.Core.List.{List, [], _∷_, _++_, append-assoc, append-nil}
 use Prim.Native.Nat.{ℕ, suc, _+_, _-_, _*_, _%_, _≤_, _<_}
 use native.Mathlib.Numerals.{add-one}
 use native.Mathlib.Omega.{arith}
-use lib.Dec.{leb}
+use lib.Dec.{leb, ltb}
 use lib.ListN.{length, take, drop, set, getD}
 use lib.Seq.{take-add, take-suc-set, drop-cons}
 use borrow.Author.Tests.{lt-ltb, le-leb}
 use Rattle.lists.specs.Tests.{within, allOf}
-use Rattle.lists.proofs.Laws.{in-range, all-append}
+use Rattle.lists.proofs.Laws.{either, or-right, inside, in-range, all-append}
 use Rattle.batch.specs.Utf8.{scalar, encode, encodes, decoded}
-use Rattle.batch.specs.Decodes.{plain}
+use Rattle.batch.specs.Decodes.{leadsThree, plain}
 use Rattle.batch.proofs.Encoding.{enc1, enc-three, small-scalar, exactly}
 
 encodes-more : (cs : List ℕ) (c : ℕ) → encodes (cs ++ c ∷ []) ≡ encodes cs ++ encode c
@@ -24,6 +24,20 @@ encodes-more (a ∷ cs) c = ap (λ (l : List ℕ). encode a ++ l) (encodes-more 
 
 peel : (s : List ℕ) (i j : ℕ) → j ≡ suc i → i < length s → drop i s ≡ getD s i 0 ∷ drop j s
 peel s i j e h = rw e (drop-cons s i 0 h)
+
+module _ (a : ℕ) (w : leadsThree a ≡ true) where
+  by-first : {G : Type 0} → ((0xE1 ≤ a) × (a ≤ 0xEC) → G) → ((0xEE ≤ a) × (a ≤ 0xEF) → G) → G
+  unfolding leadsThree
+  by-first f g = either (within 0xE1 0xEC a) (within 0xEE 0xEF a) w (λ p. f (in-range 0xE1 0xEC a p)) (λ p. g (in-range 0xEE 0xEF a p))
+
+  first-range : (0xE1 ≤ a) × (a ≤ 0xEF)
+  first-range = by-first (λ r. (r .0, omega arith)) (λ r. (omega arith, r .1))
+
+  first-scalar : (y z v : ℕ) → v ≡ ((a - 0xE0) * 64 + y) * 64 + z → y < 64 → z < 64 → scalar v ≡ true
+  unfolding scalar
+  first-scalar y z v e p q =
+      by-first (λ r. rw (lt-ltb v 0xD800 (omega arith)))
+      (λ r. or-right (ltb v 0xD800) (within 0xE000 0x10FFFF v) (inside 0xE000 0x10FFFF v (omega arith) (omega arith)))
 
 -- the first i bytes are read, and n values are written for them
 pub record Seen (s out : List ℕ) (n i : ℕ) : Type 0 where
@@ -64,11 +78,11 @@ module _ {s out : List ℕ} {n i : ℕ} (k : Seen s out n i) where
         more 1 a (omega arith) (omega arith) (rw (peel s i (i + 1) (omega arith) h, b, e)) (rw (b, le-leb 0x20 a q)) (small-scalar a [] p)
 
     pub three : {a b c : ℕ} → i + 2 < length s → a ≡ getD s i 0 → b ≡ getD s (i + 1) 0 → c ≡ getD s (i + 2) 0
-        → within 0xE1 0xEC a ≡ true → within 0x80 0xBF b ≡ true → within 0x80 0xBF c ≡ true
+        → leadsThree a ≡ true → within 0x80 0xBF b ≡ true → within 0x80 0xBF c ≡ true
         → Seen s (set out n (a % 16 * 4096 + b % 64 * 64 + c % 64)) (n + 1) (i + 3)
-    unfolding allOf scalar
+    unfolding allOf
     three {a} {b} {c} h ea eb ec wa wb wc =
-        let ra = in-range 0xE1 0xEC a wa in
+        let ra = first-range a wa in
         let rb = in-range 0x80 0xBF b wb in
         let rc = in-range 0x80 0xBF c wc in
         let v : ℕ = a % 16 * 4096 + b % 64 * 64 + c % 64 in
@@ -88,4 +102,4 @@ module _ {s out : List ℕ} {n i : ℕ} (k : Seen s out n i) where
         rw (peel s i (i + 1) (omega arith) (omega arith), peel s (i + 1) (i + 2) (omega arith) (omega arith), peel s (i + 2) (i + 3) (omega arith) h) (cc (ea, eb, ec)) in
         more 3 v (omega arith) (omega arith) (there ∙ sym bytes)
         (rw (bytes, le-leb 0x20 a (omega (arith, ra)), le-leb 0x20 b (omega (arith, rb)), le-leb 0x20 c (omega (arith, rc))))
-        (rw (lt-ltb v 0xD800 (omega (arith, ev, ra, rb, rc))))
+        (first-scalar a wa y z v ev (omega (arith, rb)) (omega (arith, rc)))

@@ -1,11 +1,11 @@
 -- What `decode`, its one pass and `read_name` answer and write.
 use mathlib.Core.Path.{_≡_}
-use mathlib.Core.Bool.{Bool, true}
+use mathlib.Core.Bool.{Bool, true, _||_}
 use mathlib.Core.List.{List, []}
 use Prim.Native.Nat.{ℕ, _≤_, _<_, min}
 use lib.Dec.{leb}
 use lib.ListN.{length, take, getD}
-use Rattle.lists.specs.Tests.{pick, allOf}
+use Rattle.lists.specs.Tests.{pick, within, allOf}
 use Rattle.lists.specs.Front.{written}
 use Rattle.batch.specs.declared.utf8.Decoded.{Decoded}
 use Rattle.batch.specs.declared.utf8.Lead.{Lead}
@@ -37,6 +37,10 @@ pub record Leads (b : ℕ) (r : Lead) : Type 0 where
   pub need : r .need ≡ needOf b
   pub least : r .least ≡ leastOf b
   pub bits : r .bits ≡ bitsOf b
+
+-- of the first bytes of three, those that begin no overlong form and no surrogate
+unfoldable pub leadsThree : ℕ → Bool
+leadsThree b = within 0xE1 0xEC b || within 0xEE 0xEF b
 
 -- no control character
 abbrev pub plain : List ℕ → Bool

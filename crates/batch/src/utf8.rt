@@ -5,7 +5,7 @@ ghost use Prim.Native.Nat.{_+_, _^_, _≤_, _<_, min};
 ghost use lib.ListN.{length, set};
 ghost use Rattle.lists.specs.Tests.{within};
 ghost use Rattle.batch.specs.Utf8.{whole, decoded};
-ghost use Rattle.batch.specs.Decodes.{decodedAs, Decodes, DecodesUpToFault, Leads, Reads};
+ghost use Rattle.batch.specs.Decodes.{decodedAs, Decodes, DecodesUpToFault, Leads, leadsThree, Reads};
 
 // Whether all bytes are well-formed, and how many code points were counted.
 pub struct Decoded {
@@ -193,11 +193,14 @@ fn first_64(n: usize) -> usize
     if n < 64 { n } else { 64 }
 }
 
-// The first byte of three for a value of 1000 to CFFF: none is overlong, none a surrogate.
+// The first byte of three for a value of 1000 to CFFF or E000 to FFFF: none is overlong, none a surrogate.
 fn is_first(b: u32) -> bool
-    ensures { λ r. ⌜ r ≡ within 0xE1 0xEC b ⌝ }
+    ensures { λ r. ⌜ r ≡ leadsThree b ⌝ }
 {
-    in_range(0xE1, 0xEC, b)
+    if in_range(0xE1, 0xEC, b) {
+        return true;
+    }
+    in_range(0xEE, 0xEF, b)
 }
 
 // Reads a name of ASCII and such values up to an LF: its code points go to the start of out. Of any other nothing is said.
