@@ -165,6 +165,12 @@ module _ (b : ℕ) (keys : List ℕ) (j n i : ℕ) (s : Enc) where
   unfolding run
   run-next e total h p q = rw (p, run-kept, add-one j) (rw (drop-cons keys j 0 h) at q)
 
+  -- of the last key only the integer is asked
+  pub run-last : (total : List ℕ) → j + 1 ≡ length keys → let d = (getD keys j 0 / 64 - n) * (s .h + 1) + getD keys j 0 % 64 - i in
+      take 64 (run b (drop j keys) n i s) ≡ total → take 64 (s .out ++ varint (suc d) (s .bias) 36 d) ≡ total
+  unfolding run emit due
+  run-last total h q = rw (drop-cons keys j 0 (omega arith), drop-of-length-le keys {i = suc j} (omega arith)) at q
+
   pub run-end : (total : List ℕ) → length keys ≤ j → take 64 (run b (drop j keys) n i s) ≡ total → take 64 (s .out) ≡ total
   unfolding run
   run-end total h q = rw (drop-of-length-le keys h) at q
