@@ -48,11 +48,6 @@ pub fn is_japanese(code: u32) -> bool {
     japanese().contains(&code)
 }
 
-/// A Japanese character that is no sign.
-pub fn is_kana_or_kanji(code: u32) -> bool {
-    is_japanese(code) && !SIGNS.contains(&code)
-}
-
 /// Letters in lower case and digits. Upper case never outlives the normal form.
 pub fn is_letter_or_digit(code: u32) -> bool {
     match char::from_u32(code) {

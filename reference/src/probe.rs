@@ -165,13 +165,7 @@ fn characters(numbers: &[u32]) -> String {
     let next = numbers.iter().skip(1).chain([&0]);
     words(numbers.iter().zip(next).map(|(code, next)| {
         let japanese = chars::is_japanese(*code);
-        let flags = [
-            chars::is_letter_or_digit(*code),
-            chars::is_ascii_set(*code),
-            chars::is_kana_or_kanji(*code),
-            japanese,
-            japanese,
-        ];
+        let flags = [chars::is_letter_or_digit(*code), chars::is_ascii_set(*code), japanese, japanese];
         let flags: String = flags.into_iter().map(flag).collect();
         let joined = normal::joined(*code, *next).unwrap_or(0);
         format!("{flags}{} {:x} {joined:x}", normal::kind(*code), normal::replaced(*code))

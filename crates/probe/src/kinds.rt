@@ -24,7 +24,6 @@ fn class_letter(c: u32) -> u8 {
 fn put_flags(kanji: &[u32], c: u32, out: &mut [u8], from: usize) -> usize {
     let mut o = put_flag(out, from, characters::is_alnum(c));
     o = put_flag(out, o, characters::is_ascii(c));
-    o = put_flag(out, o, characters::is_kana_or_kanji_with(kanji, c));
     o = put_flag(out, o, characters::is_japanese_with(kanji, c));
     put_flag(out, o, characters::is_japanese(c))
 }

@@ -1,3 +1,5 @@
+-- `class_letter` meets its contract: each class has its letter.
+-- Assumes nothing.
 use borrow.Author.Needs.{needs}
 use Rattle.batch.specs.Answer.{letter}
 use Rattle.batch.proofs.answer.class_letter.Statement.{statement}
