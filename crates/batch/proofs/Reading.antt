@@ -2,17 +2,17 @@
 -- or of three.
 -- Assumes nothing.
 use mathlib.Core.Path.{_≡_, refl, sym, ap, _∙_}
-use mathlib.Core.Bool.{true}
+use mathlib.Core.Bool.{Bool, true, false, not, _||_}
 use mathlib.Core.List.{List, [], _∷_, _++_, append-assoc, append-nil}
 use Prim.Native.Nat.{ℕ, suc, _+_, _-_, _*_, _%_, _≤_, _<_}
 use native.Mathlib.Numerals.{add-one}
 use native.Mathlib.Omega.{arith}
-use lib.Dec.{leb, ltb}
+use lib.Dec.{eqb, leb, ltb}
 use lib.ListN.{length, take, drop, set, getD}
 use lib.Seq.{take-add, take-suc-set, drop-cons}
-use borrow.Author.Tests.{lt-ltb, le-leb}
+use borrow.Author.Tests.{eqb-false, ltb-false, le-leb, not-true}
 use Rattle.lists.specs.Tests.{within, allOf}
-use Rattle.lists.proofs.Laws.{either, or-right, inside, in-range, all-append}
+use Rattle.lists.proofs.Laws.{both, inside, in-range, all-append}
 use Rattle.batch.specs.Utf8.{scalar, encode, encodes, decoded}
 use Rattle.batch.specs.Decodes.{leadsThree, plain}
 use Rattle.batch.proofs.Encoding.{enc1, enc-three, small-scalar, exactly}
@@ -26,18 +26,23 @@ peel : (s : List ℕ) (i j : ℕ) → j ≡ suc i → i < length s → drop i s 
 peel s i j e h = rw e (drop-cons s i 0 h)
 
 module _ (a : ℕ) (w : leadsThree a ≡ true) where
-  by-first : {G : Type 0} → ((0xE1 ≤ a) × (a ≤ 0xEC) → G) → ((0xEE ≤ a) × (a ≤ 0xEF) → G) → G
+  parts : (not (eqb a 0xED) ≡ true) × (within 0xE1 0xEF a ≡ true)
   unfolding leadsThree
-  by-first f g = either (within 0xE1 0xEC a) (within 0xEE 0xEF a) w (λ p. f (in-range 0xE1 0xEC a p)) (λ p. g (in-range 0xEE 0xEF a p))
+  parts = both (not (eqb a 0xED)) (within 0xE1 0xEF a) w
 
   first-range : (0xE1 ≤ a) × (a ≤ 0xEF)
-  first-range = by-first (λ r. (r .0, omega arith)) (λ r. (omega arith, r .1))
+  first-range = in-range 0xE1 0xEF a (parts .1)
 
   first-scalar : (y z v : ℕ) → v ≡ ((a - 0xE0) * 64 + y) * 64 + z → y < 64 → z < 64 → scalar v ≡ true
   unfolding scalar
-  first-scalar y z v e p q =
-      by-first (λ r. rw (lt-ltb v 0xD800 (omega arith)))
-      (λ r. or-right (ltb v 0xD800) (within 0xE000 0x10FFFF v) (inside 0xE000 0x10FFFF v (omega arith) (omega arith)))
+  first-scalar y z v e p q = go (ltb v 0xD800) refl
+    where
+      go : (b : Bool) → ltb v 0xD800 ≡ b → b || within 0xE000 0x10FFFF v ≡ true
+      go true k = refl
+      go false k =
+          let n = eqb-false a 0xED (not-true (eqb a 0xED) (parts .0)) in
+          let l = ltb-false v 0xD800 k in
+          inside 0xE000 0x10FFFF v (omega (arith, first-range)) (omega (arith, first-range))
 
 -- the first i bytes are read, and n values are written for them
 pub record Seen (s out : List ℕ) (n i : ℕ) : Type 0 where

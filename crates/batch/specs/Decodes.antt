@@ -1,9 +1,9 @@
 -- What `decode`, its one pass and `read_name` answer and write.
 use mathlib.Core.Path.{_≡_}
-use mathlib.Core.Bool.{Bool, true, _||_}
+use mathlib.Core.Bool.{Bool, true, not, _&&_}
 use mathlib.Core.List.{List, []}
 use Prim.Native.Nat.{ℕ, _≤_, _<_, min}
-use lib.Dec.{leb}
+use lib.Dec.{eqb, leb}
 use lib.ListN.{length, take, getD}
 use Rattle.lists.specs.Tests.{pick, within, allOf}
 use Rattle.lists.specs.Front.{written}
@@ -40,7 +40,7 @@ pub record Leads (b : ℕ) (r : Lead) : Type 0 where
 
 -- of the first bytes of three, those that begin no overlong form and no surrogate
 unfoldable pub leadsThree : ℕ → Bool
-leadsThree b = within 0xE1 0xEC b || within 0xEE 0xEF b
+leadsThree b = not (eqb b 0xED) && within 0xE1 0xEF b
 
 -- no control character
 abbrev pub plain : List ℕ → Bool

@@ -197,10 +197,10 @@ fn first_64(n: usize) -> usize
 fn is_first(b: u32) -> bool
     ensures { λ r. ⌜ r ≡ leadsThree b ⌝ }
 {
-    if in_range(0xE1, 0xEC, b) {
-        return true;
+    if b == 0xED {
+        return false;
     }
-    in_range(0xEE, 0xEF, b)
+    in_range(0xE1, 0xEF, b)
 }
 
 // Reads a name of ASCII and such values up to an LF: its code points go to the start of out. Of any other nothing is said.

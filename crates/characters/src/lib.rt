@@ -91,13 +91,10 @@ fn is_kanji(kanji: &[u32], c: u32) -> bool
     false
 }
 
-// A Japanese character, by a lent table of kanji? Below 3003 there is none; the signs come last, being the rarest.
+// A Japanese character, by a lent table of kanji? The signs come last, being the rarest.
 pub fn is_japanese_with(kanji: &[u32], c: u32) -> bool
     ensures { λ r. ⌜ r ≡ japaneseWith (now (kanji .entry)) c ⌝ }
 {
-    if c < 0x3003 {
-        return false;
-    }
     if between(0x3041, 0x3093, c) {
         return true;
     }
