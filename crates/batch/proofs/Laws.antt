@@ -10,7 +10,10 @@ use lib.Dec.{leb}
 use lib.ListN.{length, take, drop, take-append-drop, length-append}
 use borrow.Author.Tests.{le-leb}
 use Rattle.lists.specs.Tests.{pick}
-use Rattle.rules.specs.Editions.{today}
+use Rattle.characters.specs.KanjiBits.{kanjiBits}
+use Rattle.rules.specs.Permits.{Permits}
+use Rattle.rules.specs.Editions.{today, todayWith}
+use Rattle.rules.proofs.Today.{lending}
 use Rattle.batch.specs.declared.stream.Fed.{Fed}
 use Rattle.batch.specs.declared.stream.Finished.{Finished}
 use Rattle.batch.specs.declared.stream.Line.{Line}
@@ -113,3 +116,10 @@ pub batch-today : {i w : List ℕ} {l : Line} {before after′ : List ℕ} {r : 
     → Finishes (answerTo today) badAnswer l before after′ r → r .done ≡ true
     → w ++ take (r .wrote) after′ ≡ batch (answerTo today) i
 batch-today = calls-are-batch (answerTo today) badAnswer (long-line today)
+
+-- of the calls as their contracts say it, each lent the table that `characters::kanji_bits` gives
+pub batch-lent : {table : List ℕ} → table ≡ kanjiBits → {i w : List ℕ} {l : Line} {before after′ : List ℕ} {r : Finished}
+    → Calls (answerTo (todayWith table)) badAnswer i w l → Finishes (answerTo (todayWith table)) badAnswer l before after′ r → r .done ≡ true
+    → w ++ take (r .wrote) after′ ≡ batch (answerTo today) i
+batch-lent t {i} {w} {l} {before} {after′} {r} k f =
+    batch-today (lending (λ (P : Permits). Calls (answerTo P) badAnswer i w l) t k) (lending (λ (P : Permits). Finishes (answerTo P) badAnswer l before after′ r) t f)

@@ -7,7 +7,7 @@ ghost use Rattle.lists.specs.Tests.{firstOf};
 ghost use Rattle.batch.specs.Answer.{idByte, goodId};
 ghost use Rattle.batch.specs.Fields.{fieldAt, readerAt, takenBy, fieldsOf, partsOf};
 
-pub const TAB: u8 = 0x09;
+pub(crate) const TAB: u8 = 0x09;
 
 pub struct LineReader<'a> {
     pub line: &'a [u8],

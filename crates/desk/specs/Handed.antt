@@ -1,5 +1,5 @@
--- How many bytes of answers the program hands to standard output, by the rules of the edition in force. What these bytes are stands in the
--- contracts of `batch`; that they are written, no contract can say (docs/STATES.md).
+-- How many bytes of answers the program counts as handed to standard output, by the rules of the edition in force. What these bytes are stands
+-- in the contracts of `batch`; that they are written, no contract can say (docs/STATES.md).
 use mathlib.Core.List.{List}
 use mathlib.Core.Path.{_≡_}
 use Prim.Native.Nat.{ℕ}
@@ -15,6 +15,7 @@ pub record FedAll (l : Line) (piece : List ℕ) (r : Carried) : Type 0 where
   pub next : r .line ≡ after l piece
   pub handed : r .count ≡ length (wrote (answerTo today) badAnswer l piece)
 
--- the end of the input, with this line carried: its answer, where it has a byte
-pub record EndTold (r : Carried) : Type 0 where
-  pub handed : r .count ≡ length (ended (answerTo today) badAnswer (r .line))
+-- the end of the input, with the line l carried: its answer, where it has a byte
+pub record EndTold (l : Line) (r : Carried) : Type 0 where
+  pub line : r .line ≡ l
+  pub handed : r .count ≡ length (ended (answerTo today) badAnswer l)

@@ -1,6 +1,6 @@
 // The program: reads lines from standard input and writes their answers to standard output, 64 KiB at a time. It holds the table
 // of kanji, two buffers and one line, so its memory does not grow with the input. An error is told on standard error and stops it.
-// Its contracts say how many bytes of answers are handed to standard output, by the rules in force; which bytes, those of `batch` say.
+// Its contracts say how many bytes of answers it counts as handed to standard output, by the rules in force; which bytes, those of `batch` say.
 ghost use mathlib.Core.Path.{_≡_};
 ghost use mathlib.Core.Bool.{true, false};
 ghost use Prim.Native.Nat.{_≤_};
@@ -13,13 +13,13 @@ use libc::STDIN_FILENO;
 use libc::STDOUT_FILENO;
 
 // How many bytes were handed to standard output, and whether all were written.
-pub struct Handed {
+struct Handed {
     pub ok: bool,
     pub count: usize,
 }
 
 // The same for a piece of the input, with the line that is carried on.
-pub struct Carried {
+struct Carried {
     pub ok: bool,
     pub count: usize,
     pub line: Line,
@@ -81,7 +81,7 @@ fn feed_all(kanji: &[u32], line: Line, piece: &[u8], out: &mut [u8]) -> Carried
 // Tells the end of the input, and hands out what that gives.
 fn end(kanji: &[u32], line: Line, out: &mut [u8]) -> Carried
     requires { ⌜ (now kanji ≡ kanjiBits) × (most ≤ length (now out)) ⌝ }
-    ensures { λ r. ⌜ EndTold r ⌝ }
+    ensures { λ r. ⌜ EndTold line r ⌝ }
 {
     let f = batch::stream::finish_with(kanji, line, out);
     let last = f.wrote;
@@ -108,7 +108,7 @@ fn stopped(line: Line) -> Carried
 // it. The count of turns only shows that the loop ends: no input takes as many.
 fn run(kanji: &[u32], buf: &mut [u8], out: &mut [u8]) -> Carried
     requires { ⌜ (now kanji ≡ kanjiBits) × (length (now buf) ≤ 65536) × (most ≤ length (now out)) ⌝ }
-    ensures { λ r. ⌜ (r .ok ≡ true → EndTold r) ⌝ }
+    ensures { λ r. ⌜ (r .ok ≡ true → EndTold (r .line) r) ⌝ }
 {
     let mut line = batch::stream::new();
     let mut turns = u64::MAX;

@@ -17,7 +17,7 @@ ghost use Rattle.rules.specs.Editions.{todayWith};
 ghost use Rattle.rules.specs.Hopeful.{begins};
 ghost use Rattle.names.specs.Steps.{labelNumber, edgeNumber, wide, plain, endsInJp};
 
-pub(crate) const PERIOD: u32 = 0x2E;
+const PERIOD: u32 = 0x2E;
 
 pub(crate) const HYPHEN: u32 = 0x2D;
 

@@ -8,7 +8,7 @@ use crate::bias::adapt;
 use crate::bias::threshold;
 use crate::coder::ace;
 ghost use Prim.Native.Nat.{min, _+_, _-_, _*_, _≤_, _<_};
-ghost use mathlib.Core.Bool.{true, false, _&&_};
+ghost use mathlib.Core.Bool.{false, _&&_};
 ghost use mathlib.Core.List.{map};
 ghost use mathlib.Core.Path.{_≡_};
 ghost use lib.Dec.{eqb};

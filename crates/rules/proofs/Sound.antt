@@ -11,7 +11,6 @@ use lib.ListN.{length}
 use borrow.Author.Tests.{eqb-true, ne-eqb, ltb-false, le-ltb, not-true}
 use Rattle.lists.specs.Tests.{within, allOf, anyOf}
 use Rattle.lists.proofs.Laws.{both, neither, or-left, or-right, refuted, clash, in-range, all-append, any-append, all-weaker, all-none}
-use Rattle.lists.specs.Rows.{Clear}
 use Rattle.characters.specs.Characters.{alnum, hyphen, asciiSet}
 use Rattle.rules.specs.Permits.{Permits, Laws, labelChar, isEmpty}
 use Rattle.rules.specs.Rules.{middleDot, ordinary, isJapanese, beginsWithHyphen, endsWithHyphen, hyphenEdge, short, long, bareDot, labelRows, Sound}

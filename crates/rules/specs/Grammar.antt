@@ -1,6 +1,6 @@
 -- The registry's grammar: document 004's ABNF, each rule an inductive type of its own under its name; a rule stands below those
--- it uses. With the ordered rules (specs/Rules) it shares the edition's two tables, the Japanese characters and the prefecture labels, and
--- no test. Letters are in lower case, as the normal form has them: the registry, like ABNF (RFC 5234), takes the two cases for one.
+-- it uses. With the ordered rules (specs/Rules) it shares what the edition permits, its Japanese characters and its prefecture labels, and
+-- nothing else. Letters are in lower case, as the normal form has them: the registry, like ABNF (RFC 5234), takes the two cases for one.
 use mathlib.Core.Bool.{true}
 use mathlib.Core.List.{List, [], _∷_, _++_}
 use mathlib.Core.Path.{_≡_}

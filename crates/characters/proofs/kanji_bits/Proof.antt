@@ -1,4 +1,4 @@
--- `kanji_bits` meets its contract: the table in the code is the list of the definitions.
+-- `kanji_bits` meets its contract: the table in the code is that of the definitions.
 -- Assumes nothing.
 use mathlib.Core.Path.{refl}
 use Rattle.characters.specs.KanjiBits.{kanjiBits}

@@ -1,6 +1,6 @@
 -- `end` meets its contract: what the end of the input writes stands in the buffer, and all of it is handed out.
 -- Assumes nothing.
-use mathlib.Core.Path.{_∙_}
+use mathlib.Core.Path.{refl, _∙_}
 use native.Mathlib.Omega.{arith}
 use Rattle.batch.proofs.Lent.{fits}
 use Rattle.desk.proofs.Pieces.{handed, at-end}
@@ -30,7 +30,7 @@ returns : tie.Need-returns
 returns c =
     let p = c .before .before .before .before .before .before .before .before .before .pre in
     let f = c .before .before .before .before .before .finish-with .ensures in
-    record { handed = c .write .ensures ∙ handed _ (fits (f .text)) ∙ at-end (p .0) (p .1) f }
+    record { line = refl; handed = c .write .ensures ∙ handed _ (fits (f .text)) ∙ at-end (p .0) (p .1) f }
 
 pub end-spec : {M : Type 1} → statement M
 end-spec =

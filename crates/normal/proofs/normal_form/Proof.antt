@@ -1,12 +1,13 @@
 -- `normal_form` meets its contract: each refusal comes before the first write.
 -- Assumes nothing.
+use native.Mathlib.Omega.{arith}
 use Rattle.normal.proofs.Answers.{no-room, no-text, too-long, written-whole}
 use borrow.Author.Needs.{needs}
 use Rattle.normal.proofs.normal_form.Statement.{statement}
 use Rattle.normal.proofs.normal_form.Tie as tie
 
 returns : tie.Need-returns
-returns c = no-room _ _ (c .if1 .taken)
+returns c = no-room _ _ (omega (arith, c .if1 .taken))
 
 returns-2 : tie.Need-returns-2
 returns-2 c = no-text _ _ (c .before .if1 .left) (c .if2 .taken)

@@ -10,7 +10,7 @@ use Rattle.batch.proofs.stream.feed_with.Statement.{statement}
 use Rattle.batch.proofs.stream.feed_with.Tie as tie
 
 returns : tie.Need-returns
-returns c = no-room _ _ _ _ _ (c .if1 .taken)
+returns c = no-room _ _ _ _ _ (omega (arith, c .if1 .taken))
 
 feed-lines-requires : tie.Need-feed-lines-requires
 feed-lines-requires c κs = search needs

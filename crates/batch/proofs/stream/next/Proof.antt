@@ -1,5 +1,6 @@
 -- `next` meets its contract: the usual line is answered, of another its LF is looked for, and nothing was written before.
 -- Assumes nothing.
+use native.Mathlib.Omega.{arith}
 use Rattle.batch.proofs.Turns.{next-quick, next-none, next-slow}
 use borrow.Author.Needs.{needs}
 use Rattle.batch.proofs.stream.next.Statement.{statement}
@@ -23,7 +24,7 @@ same-length-2 c = search needs
 returns-2 : tie.Need-returns-2
 returns-2 c =
     let other = c .before .before in
-    next-none (c .before .find-lf .ensures) (c .if2 .taken) (other .before .before .before .quick .ensures .kept (other .if1 .left))
+    next-none (c .before .find-lf .ensures) (omega (arith, c .if2 .taken)) (other .before .before .before .quick .ensures .kept (other .if1 .left))
 
 sub-answer-with : tie.Need-sub-answer-with
 sub-answer-with c = search needs

@@ -1,4 +1,4 @@
--- `to_ascii` meets its contract: it lends the list of kanji.
+-- `to_ascii` meets its contract: it lends the bits of the kanji, with which the edition is itself.
 -- Assumes nothing.
 use Rattle.rules.specs.Permits.{Permits}
 use Rattle.names.specs.Calls.{AsciiForms}

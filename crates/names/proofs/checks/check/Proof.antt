@@ -1,4 +1,4 @@
--- `check` meets its contract: it lends the list of kanji.
+-- `check` meets its contract: it lends the bits of the kanji, with which the edition is itself.
 -- Assumes nothing.
 use Rattle.rules.specs.Permits.{Permits}
 use Rattle.names.specs.Calls.{Checks}

@@ -1,4 +1,4 @@
--- `judge` meets its contract: it lends the list of kanji.
+-- `judge` meets its contract: it lends the bits of the kanji, with which the edition is itself.
 -- Assumes nothing.
 use mathlib.Core.Path.{_≡_}
 use Rattle.rules.specs.Permits.{Permits}

@@ -1,4 +1,4 @@
--- `reads` meets its contract: it lends the list of kanji.
+-- `reads` meets its contract: it lends the bits of the kanji, with which the edition is itself.
 -- Assumes nothing.
 use mathlib.Core.Path.{_≡_}
 use Rattle.rules.specs.Permits.{Permits}
@@ -7,7 +7,6 @@ use Rattle.rules.proofs.Today.{lending}
 use borrow.Author.Needs.{needs}
 use Rattle.names.proofs.readers.reads.Statement.{statement}
 use Rattle.names.proofs.readers.reads.Tie as tie
-use Rattle.names.proofs.readers.reads.Reads as reads
 
 kanji-bits-requires : tie.Need-kanji-bits-requires
 kanji-bits-requires c κs = search needs
