@@ -252,7 +252,7 @@ pub(crate) fn quick(kanji: &[u32], s: &[u8], at: usize, out: &mut [u8]) -> Next
         return unusual();
     }
     let mut text = [0u32; 64];
-    let start = tab + 1;
+    let start = id.next;
     let read = read_name(&s[start..], &mut text);
     if !read.ok {
         return unusual();

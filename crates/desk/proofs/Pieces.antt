@@ -18,6 +18,8 @@ use Rattle.batch.specs.declared.stream.Line.{Line}
 use Rattle.batch.specs.Answer.{answerTo, badAnswer}
 use Rattle.batch.specs.Stream.{after, most, wrote, ended, used}
 use Rattle.batch.specs.Feed.{Feeds, Finishes}
+use Rattle.desk.specs.Handed.{EndTold}
+use Rattle.desk.specs.declared.Carried.{Carried}
 use Rattle.batch.proofs.Lent.{fits, head-part, tail-part}
 use Rattle.batch.proofs.Laws.{used-within, goes-on, again, wrote-again, wrote-few}
 use Rattle.batch.proofs.Longest.{bad-length, longest-today}
@@ -99,3 +101,7 @@ pub at-end : {table before after′ : List ℕ} {l : Line} {r : Finished} → ta
 at-end {before = before} {after′} {l} {r} t h f =
     let g = lending (λ (P : Permits). Finishes (answerTo P) badAnswer l before after′ r) t f in
     g .text .count ∙ rw (le-leb most (length before) h)
+
+-- what is said of the line that was told is said of the one handed back
+pub of-its-line : {l : Line} {r : Carried} → EndTold l r → EndTold (r .line) r
+of-its-line h = record { line = refl; handed = h .handed ∙ ap (λ (m : Line). length (ended (answerTo today) badAnswer m)) (sym (h .line)) }

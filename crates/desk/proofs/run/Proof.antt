@@ -6,6 +6,7 @@ use lib.ListN.{length}
 use Prim.Native.Nat.{_≤_}
 use Rattle.characters.specs.KanjiBits.{kanjiBits}
 use Rattle.batch.specs.Stream.{most}
+use Rattle.desk.proofs.Pieces.{of-its-line}
 use borrow.Author.Needs.{needs}
 use borrow.Author.Tests.{not-true}
 use Rattle.desk.proofs.run.Statement.{statement}
@@ -52,7 +53,7 @@ same-length-4 : tie.Need-same-length-4 Inv-loop μ-loop
 same-length-4 c = search needs
 
 returns-2 : tie.Need-returns-2 Inv-loop μ-loop
-returns-2 c = search needs
+returns-2 c = λ e. of-its-line (c .before .before .end .ensures)
 
 sub-feed-all : tie.Need-sub-feed-all Inv-loop μ-loop
 sub-feed-all c = search needs

@@ -2,13 +2,15 @@
 -- Assumes nothing.
 use mathlib.Core.Path.{refl, sym, ap, _∙_}
 use mathlib.Core.Bool.{true}
+use Prim.Native.Nat.{ℕ}
 use native.Mathlib.Omega.{arith}
+use lib.ListN.{drop}
 use borrow.Author.Tests.{not-false}
 use Rattle.lists.proofs.Laws.{clash}
 use Rattle.rules.specs.Editions.{todayWith}
 use Rattle.batch.specs.declared.fields.Stretch.{Stretch}
 use Rattle.batch.proofs.Lent.{tail-part, head-part}
-use Rattle.batch.proofs.Usual.{inside, answered}
+use Rattle.batch.proofs.Usual.{past, inside, answered}
 use borrow.Author.Needs.{needs}
 use Rattle.batch.proofs.answer.quick.Statement.{statement}
 use Rattle.batch.proofs.answer.quick.Tie as tie
@@ -52,14 +54,11 @@ unusual-requires-2 c κs = search needs
 returns-2 : tie.Need-returns-2
 returns-2 c = record { line = λ e. clash e (c .unusual2 .ensures); kept = λ e. refl }
 
-add-start : tie.Need-add-start
-add-start c = search needs
-
 sub-read-name : tie.Need-sub-read-name
-sub-read-name c = search needs
+sub-read-name c = omega (arith, past (c .before .before .before .before .before .before .before .before .before .before .args .s .now) (c .before .before .before .before .before .before .before .before .before .before .args .at) (c .before .before .before .before .before .before .id-reach .ensures .1) (rw head-part at (c .before .before .before .before .field-from .ensures)) (c .before .before .before .if1 .left))
 
 part-read-name-start : tie.Need-part-read-name-start
-part-read-name-start c = search needs
+part-read-name-start c = omega (arith, past (c .before .before .before .before .before .before .before .before .before .before .args .s .now) (c .before .before .before .before .before .before .before .before .before .before .args .at) (c .before .before .before .before .before .before .id-reach .ensures .1) (rw head-part at (c .before .before .before .before .field-from .ensures)) (c .before .before .before .if1 .left))
 
 part-read-name-end : tie.Need-part-read-name-end
 part-read-name-end c = search needs
@@ -105,10 +104,11 @@ add-t13 c =
     let reach = c .before .before .before .before .before .before .before .before .before .before .before .before .before .before .before .before .before .before .before .before .id-reach in
     let field = c .before .before .before .before .before .before .before .before .before .before .before .before .before .before .before .before .before .before .field-from in
     let named = rw head-part at (ap (λ (f : Stretch). f .end) (field .ensures)) in
+    let next = past (a .s .now) (a .at) (reach .ensures .1) (rw head-part at (field .ensures)) (c .before .before .before .before .before .before .before .before .before .before .before .before .before .before .before .before .before .if1 .left) in
     let good = sym (c .before .before .before .before .before .before .before .before .before .before .before .before .before .before .before .is-id .ensures) ∙ not-false _ (c .before .before .before .before .before .before .before .before .before .before .before .before .before .before .if2 .left) in
     let read = c .before .before .before .before .before .before .before .before .before .before .before .read-name .ensures (not-false _ (c .before .before .before .before .before .before .before .before .if3 .left)) in
-    let ends = inside (a .s .now) (a .at) (reach .ensures .0) (reach .ensures .1) named (c .before .before .before .before .before .before .before .before .before .before .before .before .before .before .before .before .before .if1 .left) good (tail-part (a .s .now) _) (omega (arith, read .inside)) (read .ends) (read .plainly) in
-    record { fits = omega (arith, ends, c .before .before .before .before .before .before .before .before .before .before .before .before .before .before .before .before .before .before .before .before .before .before .before .before .good .1 .0 .0) }
+    let ends = inside (a .s .now) (a .at) (reach .ensures .0) (reach .ensures .1) named (c .before .before .before .before .before .before .before .before .before .before .before .before .before .before .before .before .before .if1 .left) good (tail-part (a .s .now) _ ∙ ap (λ (n : ℕ). drop n (a .s .now)) next) (omega (arith, read .inside)) (read .ends) (read .plainly) in
+    record { fits = omega (arith, ends, next, c .before .before .before .before .before .before .before .before .before .before .before .before .before .before .before .before .before .before .before .before .before .before .before .before .good .1 .0 .0) }
 
 same-length : tie.Need-same-length
 same-length c = search needs
@@ -119,13 +119,14 @@ returns-4 c =
     let reach = c .before .before .before .before .before .before .before .before .before .before .before .before .before .before .before .before .before .before .before .before .id-reach in
     let field = c .before .before .before .before .before .before .before .before .before .before .before .before .before .before .before .before .before .before .field-from in
     let named = rw head-part at (ap (λ (f : Stretch). f .end) (field .ensures)) in
+    let next = past (a .s .now) (a .at) (reach .ensures .1) (rw head-part at (field .ensures)) (c .before .before .before .before .before .before .before .before .before .before .before .before .before .before .before .before .before .if1 .left) in
     let good = sym (c .before .before .before .before .before .before .before .before .before .before .before .before .before .before .before .is-id .ensures) ∙ not-false _ (c .before .before .before .before .before .before .before .before .before .before .before .before .before .before .if2 .left) in
     let read = c .before .before .before .before .before .before .before .before .before .before .before .read-name .ensures (not-false _ (c .before .before .before .before .before .before .before .before .if3 .left)) in
     record {
       line =
-          λ e. answered (a .s .now) (a .at) (reach .ensures .0) (reach .ensures .1) named (c .before .before .before .before .before .before .before .before .before .before .before .before .before .before .before .before .before .if1 .left) good (tail-part (a .s .now) _)
+          λ e. rw next (answered (a .s .now) (a .at) (reach .ensures .0) (reach .ensures .1) named (c .before .before .before .before .before .before .before .before .before .before .before .before .before .before .before .before .before .if1 .left) good (tail-part (a .s .now) _ ∙ ap (λ (n : ℕ). drop n (a .s .now)) next)
           (omega (arith, read .inside)) (read .ends) (read .plainly)
-          (todayWith (a .kanji .now)) (omega (arith, read .inside)) (read .text) (rw head-part at (c .before .before .before .put-text .ensures));
+          (todayWith (a .kanji .now)) (omega (arith, read .inside)) (read .text) (rw head-part at (c .before .before .before .put-text .ensures)));
       kept = λ e. clash {b = true} refl e;
     }
 
@@ -146,7 +147,6 @@ quick-spec =
     is-id-requires
     unusual-requires-2
     returns-2
-    add-start
     sub-read-name
     part-read-name-start
     part-read-name-end
