@@ -34,6 +34,11 @@ module _ (line : List ℕ) (at end : ℕ) (e : end ≡ at + firstOf tab (drop at
   pub by-end : length line ≤ end → up-to end false ≡ fieldAt line at
   by-end h = ap (up-to end) (sym (le-ltb end (length line) h)) ∙ up-to-end
 
+-- where the field ends before the line does, reading goes on past the tab
+pub past : (line : List ℕ) (at : ℕ) {r : Stretch} → r ≡ fieldAt line at → r .end < length line → r .next ≡ r .end + 1
+past line at {r} e h =
+    ap (λ (x : Stretch). x .next) (e ∙ sym (by-tab line at (r .end) (ap (λ (x : Stretch). x .end) e) h))
+
 -- ---- exactly one tab
 
 module _ (line : List ℕ) (both : TwoFields) (e : both ≡ fieldsOf line) where
@@ -45,11 +50,11 @@ module _ (line : List ℕ) (both : TwoFields) (e : both ≡ fieldsOf line) where
   no-tab h = simp (not-found tab line (omega (arith, tab-at)))
 
   module _ (h : both .id .end < length line) where
-    -- reading goes on past the tab
     past-tab : fieldAt line 0 .next ≡ suc (firstOf tab line)
     past-tab =
+        let id = ap (λ (x : TwoFields). x .id) e in
         let n : both .id .end + 1 ≡ suc (firstOf tab line) = omega (arith, tab-at) in
-        sym (ap (λ (x : Stretch). x .next) (by-tab line 0 (both .id .end) (ap (λ (x : TwoFields). x .id .end) e) h)) ∙ n
+        sym (ap (λ (x : Stretch). x .next) id) ∙ past line 0 id h ∙ n
 
     name-ends : both .name .end ≡ suc (firstOf tab line) + firstOf tab (nameOf line)
     unfolding nameOf

@@ -10,7 +10,7 @@ use native.Mathlib.Omega.{arith}
 use lib.Dec.{eqb, leb}
 use lib.ListN.{length, take, drop, getD, length-append, length-drop, take-append-drop}
 use lib.Seq.{split-at, drop-cons, drop-drop, take-at, length-take-le, getD-take, getD-drop, getD-append-add}
-use borrow.Author.Tests.{ne-eqb, eqb-true, lt-ltb}
+use borrow.Author.Tests.{ne-eqb, eqb-true}
 use Rattle.lists.specs.Tests.{within, allOf, anyOf, firstOf}
 use Rattle.lists.specs.Front.{Puts}
 use Rattle.lists.proofs.Laws.{both, in-range, clash, any-append, all-none}
@@ -23,6 +23,7 @@ use Rattle.batch.specs.Answer.{tab, idByte, goodId, goodAnswer, answerTo
 use Rattle.batch.specs.Fields.{fieldAt}
 use Rattle.batch.specs.Stream.{lf}
 use Rattle.batch.specs.Next.{Answered}
+use Rattle.batch.proofs.LineFields.{past}
 use Rattle.batch.proofs.OneTab.{Fields, fields-are}
 use Rattle.batch.proofs.Lent.{puts-stands}
 use Rattle.batch.proofs.Answering.{two-parts, fields-good}
@@ -64,11 +65,8 @@ tab-there s at {k} {t} low high et it =
     ∙ ap (λ (i : ℕ). getD (take u xs ++ 0x09 ∷ drop (suc u) xs) i 0) w ∙ getD-append-add (take u xs) (0x09 ∷ drop (suc u) xs) 0 0
 
 -- the field that begins at `at`, of the first k bytes, ends before their end: reading goes on past the tab
-pub past : (s : List ℕ) (at : ℕ) {k : ℕ} {r : Stretch} → k ≤ length s → r ≡ fieldAt (take k s) at → r .end < k → r .next ≡ r .end + 1
-past s at {k} {r} high e it =
-    let ends : r .end ≡ fieldAt (take k s) at .end = ap (λ (f : Stretch). f .end) e in
-    let h : fieldAt (take k s) at .end < length (take k s) = omega (arith, ends, length-take-le k s high) in
-    ap (λ (f : Stretch). f .next) e ∙ rw (lt-ltb _ _ h) (ap (λ (n : ℕ). n + 1) (sym ends))
+pub past-id : (s : List ℕ) (at : ℕ) {k : ℕ} {r : Stretch} → k ≤ length s → r ≡ fieldAt (take k s) at → r .end < k → r .next ≡ r .end + 1
+past-id s at {k} high e it = past (take k s) at e (omega (arith, length-take-le k s high))
 
 -- the line that begins at `at`: its first field is an id, which ends at t, and the rest begins with the name, up to an LF at e
 module _ (s : List ℕ) (at : ℕ) {k t e : ℕ} {rest : List ℕ} (low : at ≤ k) (high : k ≤ length s) (et : t ≡ at + firstOf tab (drop at (take k s))) (it : t < k)

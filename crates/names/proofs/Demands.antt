@@ -1,5 +1,5 @@
--- Demand 2 of the calls themselves, from their statements alone: with room the check and the whole ASCII form say what the rules say of the
--- text, since row 1 does not apply and row 14 never does (Coded); and the rules accept exactly what the grammar derives.
+-- The calls accept exactly what the grammar derives, from their statements alone: with room the check and the whole ASCII form say what the
+-- rules say of the text, since row 1 does not apply and row 14 never does (Coded), and the rules accept exactly what the grammar derives.
 -- Assumes nothing.
 use mathlib.Core.Path.{_≡_, sym, ap, _∙_}
 use mathlib.Core.List.{List}

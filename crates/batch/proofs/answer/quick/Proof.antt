@@ -10,7 +10,7 @@ use Rattle.lists.proofs.Laws.{clash}
 use Rattle.rules.specs.Editions.{todayWith}
 use Rattle.batch.specs.declared.fields.Stretch.{Stretch}
 use Rattle.batch.proofs.Lent.{tail-part, head-part}
-use Rattle.batch.proofs.Usual.{past, inside, answered}
+use Rattle.batch.proofs.Usual.{past-id, inside, answered}
 use borrow.Author.Needs.{needs}
 use Rattle.batch.proofs.answer.quick.Statement.{statement}
 use Rattle.batch.proofs.answer.quick.Tie as tie
@@ -55,10 +55,10 @@ returns-2 : tie.Need-returns-2
 returns-2 c = record { line = λ e. clash e (c .unusual2 .ensures); kept = λ e. refl }
 
 sub-read-name : tie.Need-sub-read-name
-sub-read-name c = omega (arith, past (c .before .before .before .before .before .before .before .before .before .before .args .s .now) (c .before .before .before .before .before .before .before .before .before .before .args .at) (c .before .before .before .before .before .before .id-reach .ensures .1) (rw head-part at (c .before .before .before .before .field-from .ensures)) (c .before .before .before .if1 .left))
+sub-read-name c = omega (arith, past-id (c .before .before .before .before .before .before .before .before .before .before .args .s .now) (c .before .before .before .before .before .before .before .before .before .before .args .at) (c .before .before .before .before .before .before .id-reach .ensures .1) (rw head-part at (c .before .before .before .before .field-from .ensures)) (c .before .before .before .if1 .left))
 
 part-read-name-start : tie.Need-part-read-name-start
-part-read-name-start c = omega (arith, past (c .before .before .before .before .before .before .before .before .before .before .args .s .now) (c .before .before .before .before .before .before .before .before .before .before .args .at) (c .before .before .before .before .before .before .id-reach .ensures .1) (rw head-part at (c .before .before .before .before .field-from .ensures)) (c .before .before .before .if1 .left))
+part-read-name-start c = omega (arith, past-id (c .before .before .before .before .before .before .before .before .before .before .args .s .now) (c .before .before .before .before .before .before .before .before .before .before .args .at) (c .before .before .before .before .before .before .id-reach .ensures .1) (rw head-part at (c .before .before .before .before .field-from .ensures)) (c .before .before .before .if1 .left))
 
 part-read-name-end : tie.Need-part-read-name-end
 part-read-name-end c = search needs
@@ -104,7 +104,7 @@ add-t13 c =
     let reach = c .before .before .before .before .before .before .before .before .before .before .before .before .before .before .before .before .before .before .before .before .id-reach in
     let field = c .before .before .before .before .before .before .before .before .before .before .before .before .before .before .before .before .before .before .field-from in
     let named = rw head-part at (ap (λ (f : Stretch). f .end) (field .ensures)) in
-    let next = past (a .s .now) (a .at) (reach .ensures .1) (rw head-part at (field .ensures)) (c .before .before .before .before .before .before .before .before .before .before .before .before .before .before .before .before .before .if1 .left) in
+    let next = past-id (a .s .now) (a .at) (reach .ensures .1) (rw head-part at (field .ensures)) (c .before .before .before .before .before .before .before .before .before .before .before .before .before .before .before .before .before .if1 .left) in
     let good = sym (c .before .before .before .before .before .before .before .before .before .before .before .before .before .before .before .is-id .ensures) ∙ not-false _ (c .before .before .before .before .before .before .before .before .before .before .before .before .before .before .if2 .left) in
     let read = c .before .before .before .before .before .before .before .before .before .before .before .read-name .ensures (not-false _ (c .before .before .before .before .before .before .before .before .if3 .left)) in
     let ends = inside (a .s .now) (a .at) (reach .ensures .0) (reach .ensures .1) named (c .before .before .before .before .before .before .before .before .before .before .before .before .before .before .before .before .before .if1 .left) good (tail-part (a .s .now) _ ∙ ap (λ (n : ℕ). drop n (a .s .now)) next) (omega (arith, read .inside)) (read .ends) (read .plainly) in
@@ -119,7 +119,7 @@ returns-4 c =
     let reach = c .before .before .before .before .before .before .before .before .before .before .before .before .before .before .before .before .before .before .before .before .id-reach in
     let field = c .before .before .before .before .before .before .before .before .before .before .before .before .before .before .before .before .before .before .field-from in
     let named = rw head-part at (ap (λ (f : Stretch). f .end) (field .ensures)) in
-    let next = past (a .s .now) (a .at) (reach .ensures .1) (rw head-part at (field .ensures)) (c .before .before .before .before .before .before .before .before .before .before .before .before .before .before .before .before .before .if1 .left) in
+    let next = past-id (a .s .now) (a .at) (reach .ensures .1) (rw head-part at (field .ensures)) (c .before .before .before .before .before .before .before .before .before .before .before .before .before .before .before .before .before .if1 .left) in
     let good = sym (c .before .before .before .before .before .before .before .before .before .before .before .before .before .before .before .is-id .ensures) ∙ not-false _ (c .before .before .before .before .before .before .before .before .before .before .before .before .before .before .if2 .left) in
     let read = c .before .before .before .before .before .before .before .before .before .before .before .read-name .ensures (not-false _ (c .before .before .before .before .before .before .before .before .if3 .left)) in
     record {
