@@ -3,7 +3,7 @@
 pub const NUMBERS: usize = 17;
 
 /// The calls whose answer begins with a number.
-const NUMBERED: &str = "NCcAaEDLlJj";
+const NUMBERED: &str = "NCcAaEDLlJjQ";
 
 /// The numbers in the answer to a case. Most calls answer one; a batch answers
 /// one a line, in octets; the others answer none.

@@ -58,6 +58,20 @@ pub fn is_prefecture_label(label: &[u32]) -> bool {
     prefectures().contains(label)
 }
 
+/// Whether one of the 94 begins with these characters, or is them.
+pub fn begins_prefecture_label(begun: &[u32]) -> bool {
+    prefectures().iter().any(|label| label.starts_with(begun))
+}
+
+pub fn is_jp(label: &[u32]) -> bool {
+    label == points("jp")
+}
+
+/// Whether "jp" begins with these characters, or is them.
+pub fn begins_jp(begun: &[u32]) -> bool {
+    points("jp").starts_with(begun)
+}
+
 pub fn is_japanese_label(label: &[u32]) -> bool {
     label.iter().any(|code| is_japanese(*code))
 }
@@ -71,32 +85,62 @@ pub fn check_length(text: &[u32]) -> Result<(), Refusal> {
     }
 }
 
+/// What a label may hold.
+pub fn may_be_in_label(code: u32) -> bool {
+    is_ascii_set(code) || is_japanese(code)
+}
+
 fn is_permitted(code: u32) -> bool {
-    code == PERIOD || is_ascii_set(code) || is_japanese(code)
+    code == PERIOD || may_be_in_label(code)
+}
+
+/// The index of the first character that is not permitted, or the length.
+pub fn first_unfit(normal: &[u32]) -> usize {
+    normal.iter().position(|code| !is_permitted(*code)).unwrap_or(normal.len())
+}
+
+/// Where the label ends that is read from an index on. Past the text's end
+/// there is nothing to read, so it ends where it begins.
+pub fn label_end(normal: &[u32], from: usize) -> usize {
+    let rest = normal.get(from..).unwrap_or(&[]);
+    from + labels(rest)[0].len()
+}
+
+/// A Japanese character beside which a middle dot may stand.
+pub fn is_ordinary(code: u32) -> bool {
+    is_japanese(code) && ![0x3006, 0x30FC, MIDDLE_DOT].contains(&code)
 }
 
 fn breaks_middle_dot_rule(label: &[u32]) -> bool {
-    let exceptions = [0x3006, 0x30FC, MIDDLE_DOT];
-    let others = |code: &u32| is_japanese(*code) && !exceptions.contains(code);
-    label.contains(&MIDDLE_DOT) && !label.iter().any(others)
+    label.contains(&MIDDLE_DOT) && !label.iter().any(|code| is_ordinary(*code))
 }
 
-/// Refusals 7 to 10, for a label that is not empty and has permitted
-/// characters only.
-pub fn check_leftmost(label: &[u32]) -> Result<(), Refusal> {
-    let japanese = is_japanese_label(label);
+/// Refusals 7 to 10 of any label, at its place. An ASCII label has at least
+/// so many characters.
+pub fn check_label(label: &[u32], least: usize, place: usize) -> Result<(), Refusal> {
+    check_taken(label, is_japanese_label(label), least, place)
+}
+
+/// The same of a label that is taken for Japanese or for ASCII, whatever it
+/// holds. Document 004 has the middle dot rule for Japanese labels alone.
+pub fn check_taken(label: &[u32], japanese: bool, least: usize, place: usize) -> Result<(), Refusal> {
     let longest = if japanese { 15 } else { 63 };
     if label.first() == Some(&HYPHEN) || label.last() == Some(&HYPHEN) {
-        Err(Refusal::plain(7))
-    } else if !japanese && label.len() < 3 {
-        Err(Refusal::plain(8))
+        Err(Refusal::at(7, place))
+    } else if !japanese && label.len() < least {
+        Err(Refusal::at(8, place))
     } else if label.len() > longest {
-        Err(Refusal::plain(9))
-    } else if breaks_middle_dot_rule(label) {
-        Err(Refusal::plain(10))
+        Err(Refusal::at(9, place))
+    } else if japanese && breaks_middle_dot_rule(label) {
+        Err(Refusal::at(10, place))
     } else {
         Ok(())
     }
+}
+
+/// Refusals 7 to 10 of the leftmost label.
+pub fn check_leftmost(label: &[u32]) -> Result<(), Refusal> {
+    check_label(label, 3, 0)
 }
 
 /// The whole check, given room: refusals 2 to 12.
@@ -115,7 +159,7 @@ pub fn check(text: &[u32]) -> Result<Accepted, Refusal> {
         return Err(Refusal::at(6, empty));
     }
     check_leftmost(&labels[0])?;
-    if labels.last() != Some(&points("jp")) {
+    if !labels.last().is_some_and(|last| is_jp(last)) {
         return Err(Refusal::plain(11));
     }
     let class = match labels.len() {

@@ -1,13 +1,14 @@
 //! The probe: one case a line, one answer a line. The format stands in the
 //! README.
 
-use crate::answer::{Answer, Class};
+use crate::answer::{Answer, Class, Refusal};
 use crate::batch;
 use crate::calls;
 use crate::chars;
 use crate::grammar;
 use crate::hope;
 use crate::live::Live;
+use crate::name;
 use crate::normal;
 use std::fmt::LowerHex;
 
@@ -51,6 +52,7 @@ fn on_numbers(call: &str, lent: usize, numbers: &[u32]) -> Option<String> {
         "P" => words((0..=lent).map(|entry| normal::place_of(numbers, entry))),
         "K" => characters(numbers),
         "T" => lists(lent, numbers),
+        "Q" => label(numbers)?,
         _ => return None,
     })
 }
@@ -181,6 +183,43 @@ fn lists(end: usize, numbers: &[u32]) -> String {
         let held = numbers.iter().map(|number| flag(first.contains(number)));
         [flag(first == second)].into_iter().chain(held).collect()
     })
+}
+
+/// The number that its upper and its lower half make.
+fn whole(halves: &[u32]) -> usize {
+    halves.iter().fold(0, |whole, half| whole << 32 | *half as usize)
+}
+
+/// Refusals 7 to 10 of a label, where one ends, its first unfit character,
+/// whether it is Japanese, the refusals if it is taken for Japanese and for
+/// ASCII, how it may end a name, and what each character of it is. The label
+/// comes after six numbers: the halves of where to begin, of the least length
+/// and of the label's place.
+fn label(numbers: &[u32]) -> Option<String> {
+    let (halves, label) = numbers.split_at_checked(6)?;
+    let (from, least, place) = (whole(&halves[..2]), whole(&halves[2..4]), whole(&halves[4..]));
+    let said = |checked: Result<(), Refusal>| match checked {
+        Ok(()) => "0 0".to_string(),
+        Err(refusal) => format!("{} {}", refusal.number, refusal.place),
+    };
+    let rule = said(name::check_label(label, least, place));
+    let (end, unfit) = (name::label_end(label, from), name::first_unfit(label));
+    let japanese = flag(name::is_japanese_label(label));
+    let for_japanese = said(name::check_taken(label, true, least, place));
+    let for_ascii = said(name::check_taken(label, false, least, place));
+    let ending = endings(label);
+    let mut out = format!("{rule} {end} {unfit} {japanese} {for_japanese} {for_ascii} {ending}");
+    for code in label {
+        out.extend([' ', flag(name::may_be_in_label(*code)), flag(name::is_ordinary(*code))]);
+    }
+    Some(out)
+}
+
+/// Whether a label is "jp", begins it, is a prefecture label, begins one.
+fn endings(label: &[u32]) -> String {
+    let last = [name::is_jp(label), name::begins_jp(label)];
+    let middle = [name::is_prefecture_label(label), name::begins_prefecture_label(label)];
+    last.into_iter().chain(middle).map(flag).collect()
 }
 
 /// The only tab, the field from a place on, the first field and the one where

@@ -3,7 +3,7 @@
 use reference::cases::random::{any_label, NameMaker};
 use reference::live::Live;
 use reference::random::Random;
-use reference::{cases, chars, coder, grammar, name, normal, utf8};
+use reference::{cases, chars, coder, grammar, hope, name, normal, utf8};
 
 /// The numbers of every case of the calls given.
 fn cases_of(calls: &str) -> Vec<Vec<u32>> {
@@ -62,6 +62,23 @@ fn rules_and_grammar_accept_the_same_names() {
         accepted += usize::from(by_rules.is_some());
     }
     assert!(accepted > 10_000);
+}
+
+/// After a whole label and a period a text may become a name where the second
+/// label begins "jp" or a prefecture label, and ".jp" makes it one where that
+/// label is a prefecture label.
+#[test]
+fn labels_that_end_a_name_are_those_of_the_grammar() {
+    let is_plain = |label: &&[u32]| !label.contains(&chars::PERIOD) && normal::normal_form(label) == *label;
+    let cases = cases_of("Q");
+    for label in cases.iter().map(|numbers| &numbers[6..]).filter(is_plain) {
+        let text = [&reference::points("abc."), label].concat();
+        let begins = name::begins_jp(label) || name::begins_prefecture_label(label);
+        assert_eq!(hope::may_become(&text), begins, "{label:x?}");
+        assert_eq!(grammar::class_of(&text).is_some(), name::is_jp(label), "{label:x?}");
+        let whole = [&text, &reference::points(".jp")[..]].concat();
+        assert_eq!(grammar::class_of(&whole).is_some(), name::is_prefecture_label(label), "{label:x?}");
+    }
 }
 
 #[test]

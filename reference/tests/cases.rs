@@ -13,7 +13,7 @@ fn case_file_is_well_formed_and_of_bearable_size() {
     assert!(lines.iter().all(|line| line.len() <= probe::LONGEST_LINE));
     assert!(answers.iter().all(|answer| answer != "?"));
     let size = |lines: &[String]| lines.iter().map(|line| line.len() + 1).sum::<usize>();
-    assert!(size(&lines) < 1_600_000);
+    assert!(size(&lines) < 1_700_000);
     assert!(size(&answers) < 1_500_000);
 }
 
@@ -56,7 +56,7 @@ fn each_number_comes_up_with_each_call_of_its_own() {
 #[test]
 fn both_classes_and_every_call_come_up_often() {
     let lines = cases::all_lines();
-    for (calls, times) in [("NCAESDLBM", 500), ("casljJPTUFW", 200), ("K", 50)] {
+    for (calls, times) in [("NCAESDLBM", 500), ("casljJPTUFWQ", 200), ("K", 50)] {
         for call in calls.chars() {
             assert!(lines.iter().filter(|line| line.starts_with(call)).count() > times, "{call}");
         }
@@ -120,10 +120,11 @@ fn counting_knows_numbers_from_octets_and_yes_or_no() {
         ("U 1 61", "1 1 61"),
         ("F 0", "- 0 0 0 0 0"),
         ("T 1 61", "01"),
+        ("Q 0 0 0 0 3 0 1 2d", "7 1 1 1 0 7 1 7 1 0000 10"),
     ];
     let counts = count::count(answered.into_iter());
     assert_eq!((counts[0], counts[1], counts[4], counts[8], counts[16]), (2, 0, 1, 1, 2));
-    assert_eq!(counts.iter().sum::<usize>(), 6);
+    assert_eq!((counts[7], counts.iter().sum::<usize>()), (1, 7));
 }
 
 /// What a case of the smaller calls is to show.
@@ -152,6 +153,43 @@ fn the_smaller_calls_say_yes_and_no() {
     }
     let ids = lines.iter().filter(|line| line.starts_with('F'));
     assert!(ids.filter(|line| probe::answer(line.as_bytes()).ends_with('1')).count() > 50);
+}
+
+/// Every number of a label comes up often, with a place that is not 0 too, and
+/// so does either answer of every flag. 0 has the place 0 always.
+#[test]
+fn the_labels_of_the_cases_are_of_every_kind() {
+    let lines = cases::all_lines();
+    let labels = lines.iter().filter(|line| line.starts_with('Q'));
+    let answers: Vec<String> = labels.map(|line| probe::answer(line.as_bytes())).collect();
+    let words: Vec<Vec<&str>> = answers.iter().map(|answer| answer.split(' ').collect()).collect();
+    for number in ["0", "7", "8", "9", "10"] {
+        let of_number: Vec<&Vec<&str>> = words.iter().filter(|w| w[0] == number).collect();
+        let placed = of_number.iter().filter(|w| w[1] != "0").count();
+        assert!(of_number.len() > 100 && if number == "0" { placed == 0 } else { placed > 20 }, "{number}");
+    }
+    for japanese in ["0", "1"] {
+        assert!(words.iter().filter(|w| w[4] == japanese).count() > 200);
+    }
+    // A label is answered as what it is. An ASCII one that is taken for Japanese has no 8, and no middle dot for 10;
+    // a Japanese one that is taken for ASCII has no 10.
+    for (at, own, wrong) in [(5, "1", "0 7 9"), (7, "0", "0 7 8 9")] {
+        assert!(words.iter().filter(|w| w[4] == own).all(|w| w[at..at + 2] == w[..2]));
+        let others: Vec<&str> = words.iter().filter(|w| w[4] != own).map(|w| w[at]).collect();
+        assert_eq!(others.iter().copied().collect::<BTreeSet<_>>(), wrong.split(' ').collect());
+        for number in wrong.split(' ') {
+            assert!(others.iter().filter(|other| **other == number).count() >= 10, "{number}");
+        }
+    }
+    let endings: BTreeSet<&str> = words.iter().map(|w| w[9]).collect();
+    assert_eq!(endings, ["0000", "0001", "0011", "0100", "0101", "1100"].into());
+    let characters: BTreeSet<&str> = words.iter().flat_map(|w| &w[10..]).copied().collect();
+    assert_eq!(characters, ["00", "10", "11"].into());
+    // The largest number, as where to begin, as the least length and as a place.
+    let largest = usize::MAX.to_string();
+    assert!(words.iter().any(|w| w[1] == largest));
+    assert!(words.iter().any(|w| w[2] == largest));
+    assert!(lines.iter().any(|line| line.starts_with("Q 0 0 0 ffffffff ffffffff ")));
 }
 
 /// Every kind of character, each answer of every flag, and every composition.

@@ -10,20 +10,23 @@ use lib.Dec.{leb}
 use lib.ListN.{length, take, drop, take-append-drop, length-append}
 use borrow.Author.Tests.{le-leb}
 use Rattle.lists.specs.Tests.{pick}
+use Rattle.lists.proofs.Laws.{by-test}
+use Rattle.lists.proofs.Pieces.{puts-once, puts-front}
 use Rattle.characters.specs.KanjiBits.{kanjiBits}
 use Rattle.rules.specs.Permits.{Permits}
 use Rattle.rules.specs.Editions.{today, todayWith}
 use Rattle.rules.proofs.Today.{lending}
+use Rattle.answer.specs.Answers.{most}
 use Rattle.batch.specs.declared.stream.Fed.{Fed}
 use Rattle.batch.specs.declared.stream.Finished.{Finished}
 use Rattle.batch.specs.declared.stream.Line.{Line}
-use Rattle.batch.specs.Answer.{answerTo, badAnswer}
-use Rattle.batch.specs.Lines.{batch}
-use Rattle.batch.specs.Stream.{lf, fresh, pushed, after, most, closed, wrote, ended, usedFrom, used}
+use Rattle.answer.specs.Answer.{answerTo, badAnswer}
+use Rattle.lines.specs.Lines.{lf}
+use Rattle.batch.specs.Batch.{batch}
+use Rattle.batch.specs.Stream.{fresh, pushed, after, closed, wrote, ended, usedFrom, used}
 use Rattle.batch.specs.Feed.{Feeds, Finishes, Calls, begin, call}
-use Rattle.batch.proofs.Whole.{by, after-append, wrote-append, whole}
-use Rattle.batch.proofs.Lent.{at-front, stands-one}
-use Rattle.batch.proofs.Answering.{long-line}
+use Rattle.batch.proofs.AnyPieces.{after-append, wrote-append, one-piece}
+use Rattle.answer.proofs.Answering.{long-line}
 
 -- ---- two answers that meet a contract are one, the buffers too
 
@@ -31,7 +34,7 @@ module _ {answer : List ℕ → List ℕ} {bad : List ℕ} {l : Line} {before a 
   pub feeds-one : {s : List ℕ} {r q : Fed} → Feeds answer bad l s before a r → Feeds answer bad l s before b q → (a ≡ b) × (r ≡ q)
   feeds-one {s} {r} {q} f g =
       let u : r .used ≡ q .used = f .amount ∙ sym (g .amount) in
-      let t = stands-one (ap (λ (n : ℕ). wrote answer bad l (take n s)) u) (f .text) (g .text) in
+      let t = puts-once (ap (λ (n : ℕ). wrote answer bad l (take n s)) u) (f .text) (g .text) in
       let n : r .line ≡ q .line = f .next ∙ ap (λ (n : ℕ). after l (take n s)) u ∙ sym (g .next) in
       let w : r .wrote ≡ q .wrote = t .1 in
       (t .0, λ i. record { used = u i; wrote = w i; line = n i })
@@ -39,7 +42,7 @@ module _ {answer : List ℕ → List ℕ} {bad : List ℕ} {l : Line} {before a 
   pub finishes-one : {r q : Finished} → Finishes answer bad l before a r → Finishes answer bad l before b q → (a ≡ b) × (r ≡ q)
   finishes-one {r} {q} f g =
       let d : r .done ≡ q .done = f .done ∙ sym (g .done) in
-      let t = stands-one refl (f .text) (g .text) in
+      let t = puts-once refl (f .text) (g .text) in
       let w : r .wrote ≡ q .wrote = t .1 in
       (t .0, λ i. record { done = d i; wrote = w i })
 
@@ -51,21 +54,21 @@ module _ (answer : List ℕ → List ℕ) (bad : List ℕ) where
   used-from l [] room = omega arith
   used-from l (b ∷ s) room =
       let r : ℕ = room - length (closed answer bad l) in
-      by (λ (x : Bool). pick x (pick (leb most r) (suc (usedFrom answer bad fresh s r)) 1) (suc (usedFrom answer bad (pushed l b) s room)) ≤ suc (length s)) (lf b)
-      (λ e. by (λ (y : Bool). pick y (suc (usedFrom answer bad fresh s r)) 1 ≤ suc (length s)) (leb most r) (λ f. omega (arith, used-from fresh s r)) (λ f. omega arith))
+      by-test (λ (x : Bool). pick x (pick (leb most r) (suc (usedFrom answer bad fresh s r)) 1) (suc (usedFrom answer bad (pushed l b) s room)) ≤ suc (length s)) (lf b)
+      (λ e. by-test (λ (y : Bool). pick y (suc (usedFrom answer bad fresh s r)) 1 ≤ suc (length s)) (leb most r) (λ f. omega (arith, used-from fresh s r)) (λ f. omega arith))
       (λ e. omega (arith, used-from (pushed l b) s room))
 
   pub used-within : (l : Line) (s : List ℕ) (room : ℕ) → used answer bad l s room ≤ length s
   unfolding used
-  used-within l s room = by (λ (x : Bool). pick x (usedFrom answer bad l s room) 0 ≤ length s) (leb most room) (λ e. used-from l s room) (λ e. omega arith)
+  used-within l s room = by-test (λ (x : Bool). pick x (usedFrom answer bad l s room) 0 ≤ length s) (leb most room) (λ e. used-from l s room) (λ e. omega arith)
 
   pub goes-on : (l : Line) (b : ℕ) (s : List ℕ) {room : ℕ} → most ≤ room → 0 < used answer bad l (b ∷ s) room
   unfolding used usedFrom
   goes-on l b s {room} h =
       let r : ℕ = room - length (closed answer bad l) in
       rw (le-leb most room h)
-      (by (λ (x : Bool). 0 < pick x (pick (leb most r) (suc (usedFrom answer bad fresh s r)) 1) (suc (usedFrom answer bad (pushed l b) s room))) (lf b)
-      (λ e. by (λ (y : Bool). 0 < pick y (suc (usedFrom answer bad fresh s r)) 1) (leb most r) (λ f. omega arith) (λ f. omega arith))
+      (by-test (λ (x : Bool). 0 < pick x (pick (leb most r) (suc (usedFrom answer bad fresh s r)) 1) (suc (usedFrom answer bad (pushed l b) s room))) (lf b)
+      (λ e. by-test (λ (y : Bool). 0 < pick y (suc (usedFrom answer bad fresh s r)) 1) (leb most r) (λ f. omega arith) (λ f. omega arith))
       (λ e. omega arith))
 
   -- ---- a sequence of calls
@@ -76,7 +79,7 @@ module _ (answer : List ℕ → List ℕ) (bad : List ℕ) where
   called (call {i} {w} {l} {s} {r = r} k f) =
       let h = called k in
       let t : List ℕ = take (r .used) s in
-      (rw (at-front (f .text), h .0, h .1) (sym (wrote-append answer bad fresh i t)), f .next ∙ rw (h .1) (sym (after-append fresh i t)))
+      (rw (puts-front (f .text), h .0, h .1) (sym (wrote-append answer bad fresh i t)), f .next ∙ rw (h .1) (sym (after-append fresh i t)))
 
   -- THE THEOREM for the code: what was used by a sequence of calls, and then its end, wrote the batch of it
   pub calls-are-batch : ((l : List ℕ) → 1024 < length l → answer l ≡ bad)
@@ -85,8 +88,8 @@ module _ (answer : List ℕ → List ℕ) (bad : List ℕ) where
   calls-are-batch over {i} {w} {l} {before} {after′} {r} k f d =
       let h = called k in
       let e : leb most (length before) ≡ true = sym (f .done) ∙ d in
-      let t : take (r .wrote) after′ ≡ ended answer bad l = at-front (rw e at (f .text)) in
-      rw (t, h .0, h .1) (sym (whole answer bad over i))
+      let t : take (r .wrote) after′ ≡ ended answer bad l = puts-front (rw e at (f .text)) in
+      rw (t, h .0, h .1) (sym (one-piece answer bad over i))
 
 -- what is left of a piece is fed as a piece: the line that is carried on, and what is written
 pub again : (l : Line) (s : List ℕ) (u : ℕ) → after l s ≡ after (after l (take u s)) (drop u s)
@@ -101,13 +104,13 @@ module _ (answer : List ℕ → List ℕ) (bad : List ℕ) (short : (l : List �
   closed-few : (l : Line) → length (closed answer bad l) ≤ most
   unfolding closed
   closed-few l =
-      by (λ (x : Bool). length (pick x (answer (take (l .n) (l .held))) bad) ≤ most) (leb (l .n) 1024) (λ e. short (take (l .n) (l .held))) (λ e. bad-short)
+      by-test (λ (x : Bool). length (pick x (answer (take (l .n) (l .held))) bad) ≤ most) (leb (l .n) 1024) (λ e. short (take (l .n) (l .held))) (λ e. bad-short)
 
   pub wrote-few : (l : Line) (s : List ℕ) → length (wrote answer bad l s) ≤ most * length s
   unfolding wrote
   wrote-few l [] = omega arith
   wrote-few l (b ∷ s) =
-      by (λ (x : Bool). length (pick x (closed answer bad l ++ wrote answer bad fresh s) (wrote answer bad (pushed l b) s)) ≤ most * suc (length s)) (lf b)
+      by-test (λ (x : Bool). length (pick x (closed answer bad l ++ wrote answer bad fresh s) (wrote answer bad (pushed l b) s)) ≤ most * suc (length s)) (lf b)
       (λ e. omega (arith, length-append (closed answer bad l) (wrote answer bad fresh s), closed-few l, wrote-few fresh s))
       (λ e. omega (arith, wrote-few (pushed l b) s))
 

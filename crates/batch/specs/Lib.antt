@@ -1,10 +1,3 @@
-pub mod Utf8
-pub mod Utf8Examples
-pub mod Decodes
-pub mod Lines
-pub mod Answer
-pub mod Fields
-pub mod Answers
+pub mod Batch
 pub mod Stream
 pub mod Feed
-pub mod Next

@@ -1,15 +1,14 @@
--- The batch by pieces that know nothing of lines: the line that is carried from piece to piece, what a piece writes, how much of
--- it is used where room is short, and what the end of the input writes. That this is the batch is in proofs/Whole.
-use mathlib.Core.Bool.{Bool}
+-- The batch by pieces that know nothing of lines: the line that is carried from piece to piece, what a piece writes,
+-- how much of it is used where room is short, and what the end of the input writes. That this is the batch is in
+-- proofs/AnyPieces.
 use mathlib.Core.List.{List, [], _∷_, _++_}
 use Prim.Native.Nat.{ℕ, suc, _+_, _-_}
 use lib.Dec.{eqb, leb, ltb}
 use lib.ListN.{length, take, set, replicate}
 use Rattle.lists.specs.Tests.{pick}
+use Rattle.lines.specs.Lines.{lf}
+use Rattle.answer.specs.Answers.{most}
 use Rattle.batch.specs.declared.stream.Line.{Line}
-
-unfoldable pub lf : ℕ → Bool
-lf b = eqb b 0x0A
 
 -- no byte yet
 unfoldable pub fresh : Line
@@ -32,10 +31,6 @@ unfoldable pub after : Line → List ℕ → Line
 after l [] = l
 after l (b ∷ s) = pick (lf b) (after fresh s) (after (pushed l b) s)
 
--- no answer is longer
-abbrev pub most : ℕ
-most = 256
-
 -- for any answer to a line of up to 1,024 bytes, and the one of every longer line
 module _ (answer : List ℕ → List ℕ) (bad : List ℕ) where
   -- the answer to the carried line, at its end
@@ -56,8 +51,9 @@ module _ (answer : List ℕ → List ℕ) (bad : List ℕ) where
   run l [] = ended l
   run l (c ∷ cs) = wrote l c ++ run (after l c) cs
 
-  -- how much of a piece is used where the buffer has this much room: a line is ended only where the longest answer fits, so a
-  -- piece is used up to its end, or up to its start or a place right after an LF where less than that is left
+  -- how much of a piece is used where the buffer has this much room: a line is ended only where the longest answer
+  -- fits, so a piece is used up to its end, or up to its start or a place right after an LF where less than that is
+  -- left
   unfoldable pub usedFrom : Line → List ℕ → ℕ → ℕ
   usedFrom l [] room = 0
   usedFrom l (b ∷ s) room =

@@ -1,7 +1,3 @@
-// The lines of a batch: UTF-8, the fields of a line by a line reader, the answer line, and a stream that is fed in pieces. Each call
-// takes any slices and says all of its result. Its meaning is defined in specs/: Utf8, Lines, Answer, Stream; what a call answers
-// and writes in Decodes, Fields, Answers, Feed.
-pub mod answer;
-pub mod fields;
+// The batch as a stream of lines that is fed in pieces. Each call takes any slices and says all of its result, and writes nothing where
+// it refuses. Its meaning is defined in specs/: Batch, Stream; what a call answers and writes in Feed.
 pub mod stream;
-pub mod utf8;

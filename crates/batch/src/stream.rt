@@ -1,24 +1,19 @@
 // A batch that arrives in pieces which know nothing of lines: each piece is fed, and then the end is told. What is carried from
-// piece to piece is the line whose end has not come. Their meaning is defined in specs/: Stream, Feed, Next.
+// piece to piece is the line whose end has not come. Their meaning is defined in specs/: Stream, Feed.
 ghost use mathlib.Core.Path.{_≡_};
-ghost use Prim.Native.Nat.{_+_, _≤_};
-ghost use lib.ListN.{length, drop};
-ghost use Rattle.lists.specs.Tests.{firstOf};
+ghost use Prim.Native.Nat.{_≤_};
+ghost use lib.ListN.{length};
 ghost use Rattle.rules.specs.Editions.{todayWith};
-ghost use Rattle.batch.specs.Answer.{answerTo, badAnswer};
-ghost use Rattle.batch.specs.Stream.{lf, fresh, pushedAll, closed};
-ghost use Rattle.batch.specs.Answers.{Writes};
+ghost use Rattle.answer.specs.Answer.{answerTo, badAnswer};
+ghost use Rattle.answer.specs.Answers.{Writes};
+ghost use Rattle.batch.specs.Stream.{fresh, pushedAll, closed};
 ghost use Rattle.batch.specs.Feed.{Scans, Feeds, restOf, Finishes};
-ghost use Rattle.batch.specs.Next.{LineAt};
-use crate::answer::MOST;
-use crate::answer::Next;
-use crate::answer::Wrote;
-use crate::answer::answer_with;
-use crate::answer::quick;
-use crate::fields::find;
-
-// A line of more bytes is refused.
-const LINE: usize = 1024;
+use answer::LONGEST_LINE;
+use answer::MOST;
+use answer::Wrote;
+use answer::answer_with;
+use answer::next_with;
+use lines::line_end;
 
 // The bytes of a line whose end has not come, and how many; over 1,024 says that there were more.
 pub struct Line {
@@ -39,7 +34,7 @@ pub struct Finished {
     pub wrote: usize,
 }
 
-// Where the whole lines end, and how many bytes their answers have.
+// Where the last line that was answered ends, and how many bytes the answers have.
 struct Scanned {
     pub at: usize,
     pub length: usize,
@@ -55,155 +50,123 @@ pub fn new() -> Line
     }
 }
 
-// The index of the first LF from `from` on, or the length.
-fn find_lf(s: &[u8], from: usize) -> usize
-    ensures { λ r. ⌜ r ≡ from + firstOf lf (drop from (now (s .entry))) ⌝ }
-{
-    find(s, from, b'\n')
-}
-
-// The carried line with the bytes of s after it.
-fn carried(line: Line, s: &[u8]) -> Line
-    ensures { λ r. ⌜ r ≡ pushedAll line (now (s .entry)) ⌝ }
+// The carried line with the bytes of a piece after it.
+fn carried(line: Line, piece: &[u8]) -> Line
+    ensures { λ r. ⌜ r ≡ pushedAll line (now (piece .entry)) ⌝ }
 {
     let mut held = line.held;
-    let mut n = line.n;
+    let mut count = line.n;
     let mut i = 0;
-    while i < s.len() {
-        let b = s[i];
+    while i < piece.len() {
+        let byte = piece[i];
         i += 1;
-        if n < LINE {
-            held[n] = b;
-            n += 1;
+        if count < LONGEST_LINE {
+            held[count] = byte;
+            count += 1;
         } else {
-            n = LINE + 1;
+            count = LONGEST_LINE + 1;
         }
     }
-    Line { held: held, n: n }
+    Line { held, n: count }
 }
 
 // The answer to a carried line. All lines that are too long have one answer, so any of them may be asked.
 fn close(kanji: &[u32], line: Line, out: &mut [u8]) -> Wrote
     ensures { λ r. ⌜ Writes (closed (answerTo (todayWith (now (kanji .entry)))) badAnswer line) (now (out .entry)) (now (out .exit)) r ⌝ }
 {
-    let n = line.n;
-    if n <= LINE {
-        let whole: &[u8] = &line.held;
-        return answer_with(kanji, &whole[0..n], out);
+    let count = line.n;
+    if count <= LONGEST_LINE {
+        let held: &[u8] = &line.held;
+        return answer_with(kanji, &held[0..count], out);
     }
     let long = [0u8; 1025];
     answer_with(kanji, &long, out)
 }
 
-// Answers the line that begins at `at`, where it ends in s.
-fn next(kanji: &[u32], s: &[u8], at: usize, out: &mut [u8]) -> Next
-    requires { ⌜ (at ≤ length (now s)) × (256 ≤ length (now out)) ⌝ }
-    ensures { λ r. ⌜ LineAt (answerTo (todayWith (now (kanji .entry)))) (now (s .entry)) at (now (out .entry)) (now (out .exit)) r ⌝ }
-{
-    let q = quick(kanji, s, at, out);
-    if q.done {
-        return q;
-    }
-    let e = find_lf(s, at);
-    if s.len() <= e {
-        return Next {
-            done: false,
-            end: e,
-            length: 0,
-        };
-    }
-    let w = answer_with(kanji, &s[at..e], out);
-    Next {
-        done: true,
-        end: e,
-        length: w.length,
-    }
-}
-
-// Answers the lines that end in s, straight from it, while there is room.
-fn scan(kanji: &[u32], s: &[u8], out: &mut [u8]) -> Scanned
-    ensures { λ r. ⌜ Scans (answerTo (todayWith (now (kanji .entry)))) badAnswer (now (s .entry)) (now (out .entry)) (now (out .exit)) r ⌝ }
+// Answers the lines that end in a piece, straight from it, while there is room.
+fn scan(kanji: &[u32], piece: &[u8], out: &mut [u8]) -> Scanned
+    ensures { λ r. ⌜ Scans (answerTo (todayWith (now (kanji .entry)))) badAnswer (now (piece .entry)) (now (out .entry)) (now (out .exit)) r ⌝ }
 {
     let mut at = 0;
-    let mut o = 0;
-    while MOST <= out.len() - o {
-        let line = next(kanji, s, at, &mut out[o..]);
+    let mut wrote = 0;
+    while MOST <= out.len() - wrote {
+        let line = next_with(kanji, &piece[at..], &mut out[wrote..]);
         if !line.done {
-            return Scanned { at: at, length: o };
+            return Scanned { at, length: wrote };
         }
-        o += line.length;
-        at = line.end + 1;
+        wrote += line.length;
+        at += line.end + 1;
     }
-    Scanned { at: at, length: o }
+    Scanned { at, length: wrote }
 }
 
-// The lines of a piece up to `at` are answered, in o bytes: with room for a further answer the rest is carried on.
-fn rest(chunk: &[u8], at: usize, o: usize, room: usize) -> Fed
-    requires { ⌜ at ≤ length (now chunk) ⌝ }
-    ensures { λ r. ⌜ r ≡ restOf (now (chunk .entry)) at o room ⌝ }
+// The lines of a piece up to `at` are answered, in `wrote` bytes: with room for a further answer the rest is carried on.
+fn rest(piece: &[u8], at: usize, wrote: usize, room: usize) -> Fed
+    requires { ⌜ at ≤ length (now piece) ⌝ }
+    ensures { λ r. ⌜ r ≡ restOf (now (piece .entry)) at wrote room ⌝ }
 {
     if room < MOST {
         return Fed {
             used: at,
-            wrote: o,
+            wrote,
             line: new(),
         };
     }
     Fed {
-        used: chunk.len(),
-        wrote: o,
-        line: carried(new(), &chunk[at..]),
+        used: piece.len(),
+        wrote,
+        line: carried(new(), &piece[at..]),
     }
 }
 
 // Feeds a piece that begins with a line, since no byte is carried: its lines are answered straight from it.
-fn feed_lines(kanji: &[u32], line: Line, chunk: &[u8], out: &mut [u8]) -> Fed
+fn feed_lines(kanji: &[u32], line: Line, piece: &[u8], out: &mut [u8]) -> Fed
     requires { ⌜ (line .n ≡ 0) × (256 ≤ length (now out)) ⌝ }
-    ensures { λ r. ⌜ Feeds (answerTo (todayWith (now (kanji .entry)))) badAnswer line (now (chunk .entry)) (now (out .entry)) (now (out .exit)) r ⌝ }
+    ensures { λ r. ⌜ Feeds (answerTo (todayWith (now (kanji .entry)))) badAnswer line (now (piece .entry)) (now (out .entry)) (now (out .exit)) r ⌝ }
 {
-    let t = scan(kanji, chunk, out);
-    let at = t.at;
-    let o = t.length;
+    let scanned = scan(kanji, piece, out);
+    let at = scanned.at;
+    let wrote = scanned.length;
     if at == 0 {
         return Fed {
-            used: chunk.len(),
+            used: piece.len(),
             wrote: 0,
-            line: carried(line, chunk),
+            line: carried(line, piece),
         };
     }
-    rest(chunk, at, o, out.len() - o)
+    rest(piece, at, wrote, out.len() - wrote)
 }
 
 // Feeds a piece: answers each line that ends in it, while there is room, and carries on the rest. What it does not use is fed again.
-pub fn feed_with(kanji: &[u32], line: Line, chunk: &[u8], out: &mut [u8]) -> Fed
-    ensures { λ r. ⌜ Feeds (answerTo (todayWith (now (kanji .entry)))) badAnswer line (now (chunk .entry)) (now (out .entry)) (now (out .exit)) r ⌝ }
+pub fn feed_with(kanji: &[u32], line: Line, piece: &[u8], out: &mut [u8]) -> Fed
+    ensures { λ r. ⌜ Feeds (answerTo (todayWith (now (kanji .entry)))) badAnswer line (now (piece .entry)) (now (out .entry)) (now (out .exit)) r ⌝ }
 {
     if out.len() < MOST {
         return Fed {
             used: 0,
             wrote: 0,
-            line: line,
+            line,
         };
     }
     if line.n == 0 {
-        return feed_lines(kanji, line, chunk, out);
+        return feed_lines(kanji, line, piece, out);
     }
-    let e = find_lf(chunk, 0);
-    if chunk.len() <= e {
+    let first_end = line_end(piece, 0);
+    if piece.len() <= first_end {
         return Fed {
-            used: chunk.len(),
+            used: piece.len(),
             wrote: 0,
-            line: carried(line, chunk),
+            line: carried(line, piece),
         };
     }
-    let first = carried(line, &chunk[0..e]);
-    let w = close(kanji, first, out);
-    let n = w.length;
-    let s = e + 1;
-    let t = scan(kanji, &chunk[s..], &mut out[n..]);
-    let at = s + t.at;
-    let o = n + t.length;
-    rest(chunk, at, o, out.len() - o)
+    let first = carried(line, &piece[0..first_end]);
+    let answer = close(kanji, first, out);
+    let length = answer.length;
+    let start = first_end + 1;
+    let scanned = scan(kanji, &piece[start..], &mut out[length..]);
+    let at = start + scanned.at;
+    let wrote = length + scanned.length;
+    rest(piece, at, wrote, out.len() - wrote)
 }
 
 // The end of the input: the answer to a last line that no LF ended. Where there is no room it is not done, and nothing is written.
@@ -216,9 +179,9 @@ pub fn finish_with(kanji: &[u32], line: Line, out: &mut [u8]) -> Finished
             wrote: 0,
         };
     }
-    let w = close(kanji, line, out);
+    let last = close(kanji, line, out);
     Finished {
-        done: w.done,
-        wrote: w.length,
+        done: last.done,
+        wrote: last.length,
     }
 }

@@ -38,8 +38,8 @@ japanese c = japaneseBy (λ x. elem x kanji) c
 abbrev pub bitSet : ℕ → ℕ → Bool
 bitSet w k = eqb (w / 2 ^ k % 2) 1
 
--- the same, of a table that is lent for the kanji: one bit for each code point from 4E00 to 9FA0, 32 to a word; where the table is too
--- short it has none. Of the bits of the kanji themselves it is `japanese` (proofs/Lent)
+-- the same, of a table that is lent for the kanji: one bit for each code point from 4E00 to 9FA0, 32 to a word; where
+-- the table is too short it has none. Of the bits of the kanji themselves it is `japanese` (proofs/Lent)
 unfoldable pub kanjiWith : List ℕ → ℕ → Bool
 kanjiWith table c = within 0x4E00 0x9FA0 c && bitSet (getD table ((c - 0x4E00) / 32) 0) ((c - 0x4E00) % 32)
 

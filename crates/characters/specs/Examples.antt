@@ -7,7 +7,9 @@ use Rattle.characters.specs.Replace.{ranges, rangeIn, halfKana, isHalf, 
 use Rattle.characters.specs.Compose.{voiced, repeats, halfVoiced, eitherKana, composed}
 
 -- A, Z; the wide A and z; the wide 7; the wide hyphen; the four separators; the first and the last half-width kana
-pub replacing : map replace (0x41 ∷ 0x5A ∷ 0xFF21 ∷ 0xFF5A ∷ 0xFF17 ∷ 0xFF0D ∷ 0x2E ∷ 0xFF0E ∷ 0x3002 ∷ 0xFF61 ∷ 0xFF65 ∷ 0xFF9F ∷ [])
+pub replacing :
+    map replace
+    (0x41 ∷ 0x5A ∷ 0xFF21 ∷ 0xFF5A ∷ 0xFF17 ∷ 0xFF0D ∷ 0x2E ∷ 0xFF0E ∷ 0x3002 ∷ 0xFF61 ∷ 0xFF65 ∷ 0xFF9F ∷ [])
     ≡ 0x61 ∷ 0x7A ∷ 0x61 ∷ 0x7A ∷ 0x37 ∷ 0x2D ∷ 0x2E ∷ 0x2E ∷ 0x2E ∷ 0x2E ∷ 0x30FB ∷ 0x309C ∷ []
 unfolding ranges rangeIn halfKana isHalf replaceIn replace within
 replacing = refl
@@ -30,6 +32,7 @@ unfolding voiced repeats halfVoiced eitherKana composed elem anyOf
 half-voicing = refl
 
 -- 3046 is not composed, nor is what is composed already, nor 30AB with the other mark
-pub apart : composed 0x3046 0x309B ∷ composed 0x30D0 0x309C ∷ composed 0x30AC 0x309B ∷ composed 0x30AB 0x309C ∷ [] ≡ 0 ∷ 0 ∷ 0 ∷ 0 ∷ []
+pub apart : composed 0x3046 0x309B ∷ composed 0x30D0 0x309C ∷ composed 0x30AC 0x309B ∷ composed 0x30AB 0x309C ∷ []
+    ≡ 0 ∷ 0 ∷ 0 ∷ 0 ∷ []
 unfolding voiced repeats halfVoiced eitherKana composed elem anyOf
 apart = refl

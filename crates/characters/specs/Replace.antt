@@ -5,7 +5,8 @@ use Prim.Native.Nat.{ℕ, _+_, _-_}
 use lib.ListN.{getD}
 use Rattle.lists.specs.Tests.{pick, within}
 use Rattle.characters.specs.declared.Replacement.{Replacement}
-use Rattle.characters.specs.declared.Replacement.the-variants.{Letter, Digit, Hyphen, Separator, HalfKana, Mark, Other}
+use Rattle.characters.specs.declared.Replacement.the-variants.{Letter, Digit, Hyphen, Separator}
+use Rattle.characters.specs.declared.Replacement.the-variants.{HalfKana, Mark, Other}
 
 -- the code points from .. to, their replacement class, and what the first of them becomes; the others follow in order
 pub record Range : Type 0 where

@@ -8,6 +8,7 @@ use native.Mathlib.Omega.{arith}
 use lib.ListN.{length, take, drop, getD, length-drop, length-append, drop-of-length-le}
 use lib.Seq.{drop-cons, drop-drop, length-take-le}
 use borrow.Author.Tests.{le-leb}
+use Rattle.lists.proofs.Pieces.{puts-inside, puts-count}
 use Rattle.characters.specs.KanjiBits.{kanjiBits}
 use Rattle.rules.specs.Permits.{Permits}
 use Rattle.rules.specs.Editions.{today, todayWith}
@@ -15,14 +16,15 @@ use Rattle.rules.proofs.Today.{lending}
 use Rattle.batch.specs.declared.stream.Fed.{Fed}
 use Rattle.batch.specs.declared.stream.Finished.{Finished}
 use Rattle.batch.specs.declared.stream.Line.{Line}
-use Rattle.batch.specs.Answer.{answerTo, badAnswer}
-use Rattle.batch.specs.Stream.{after, most, wrote, ended, used}
+use Rattle.answer.specs.Answer.{answerTo, badAnswer}
+use Rattle.answer.specs.Answers.{most}
+use Rattle.batch.specs.Stream.{after, wrote, ended, used}
 use Rattle.batch.specs.Feed.{Feeds, Finishes}
 use Rattle.desk.specs.Handed.{EndTold}
 use Rattle.desk.specs.declared.Carried.{Carried}
-use Rattle.batch.proofs.Lent.{fits, head-part, tail-part}
+use Rattle.answer.proofs.Parts.{head-part, tail-part}
 use Rattle.batch.proofs.Laws.{used-within, goes-on, again, wrote-again, wrote-few}
-use Rattle.batch.proofs.Longest.{bad-length, longest-today}
+use Rattle.answer.proofs.Longest.{bad-length, longest-today}
 
 -- what the lines that end in a piece are answered, by the rules in force
 abbrev pub answered : Line → List ℕ → List ℕ
@@ -53,7 +55,7 @@ module _ {table piece out₀ out out′ : List ℕ} {l₀ l : Line} {at count : 
   left = lending (λ (P : Permits). Feeds (answerTo P) badAnswer l (drop at piece) out out′ r) t (rw (tail-part piece at) at f)
 
   pub wrote-fits : r .wrote ≤ length out′
-  wrote-fits = fits (left .text)
+  wrote-fits = puts-inside (left .text)
 
   pub used-fits : at + r .used ≤ length piece
   used-fits = omega (arith, left .amount, used-within (answerTo today) badAnswer l (drop at piece) (length out), length-drop at piece)
@@ -68,7 +70,7 @@ module _ {table piece out₀ out out′ : List ℕ} {l₀ l : Line} {at count : 
   parts =
       let s : List ℕ = drop at piece in
       let a : answered l s ≡ answered l (take (r .used) s) ++ answered (after l (take (r .used) s)) (drop (r .used) s) = wrote-again (answerTo today) badAnswer l s (r .used) in
-      let n = left .text .count in
+      let n = left .text .place in
       let m : answered (after l (take (r .used) s)) (drop (r .used) s) ≡ answered (r .line) (drop (at + r .used) piece) =
       ap (λ (m : Line). answered m (drop (r .used) s)) (sym (left .next)) ∙ ap (answered (r .line)) (drop-drop (r .used) at piece) in
       omega (arith, ap length a, length-append (answered l (take (r .used) s)) (answered (after l (take (r .used) s)) (drop (r .used) s)), ap length m, n)
@@ -100,7 +102,7 @@ pub at-end : {table before after′ : List ℕ} {l : Line} {r : Finished} → ta
     → Finishes (answerTo (todayWith table)) badAnswer l before after′ r → r .wrote ≡ length (ended (answerTo today) badAnswer l)
 at-end {before = before} {after′} {l} {r} t h f =
     let g = lending (λ (P : Permits). Finishes (answerTo P) badAnswer l before after′ r) t f in
-    g .text .count ∙ rw (le-leb most (length before) h)
+    puts-count (g .text) ∙ rw (le-leb most (length before) h)
 
 -- what is said of the line that was told is said of the one handed back
 pub of-its-line : {l : Line} {r : Carried} → EndTold l r → EndTold (r .line) r

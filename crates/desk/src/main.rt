@@ -6,7 +6,7 @@ ghost use mathlib.Core.Bool.{true, false};
 ghost use Prim.Native.Nat.{_≤_};
 ghost use lib.ListN.{length};
 ghost use Rattle.characters.specs.KanjiBits.{kanjiBits};
-ghost use Rattle.batch.specs.Stream.{most};
+ghost use Rattle.answer.specs.Answers.{most};
 ghost use Rattle.desk.specs.Handed.{FedAll, EndTold};
 use batch::stream::Line;
 use libc::STDIN_FILENO;

@@ -9,7 +9,7 @@ use native.Mathlib.Omega.{arith}
 use lib.Dec.{eqb, leb}
 use lib.ListN.{length}
 use borrow.Author.Tests.{le-leb, leb-true, eqb-true, eq-eqb}
-use Rattle.lists.specs.Tests.{within, allOf, anyOf, elem, same}
+use Rattle.lists.specs.Tests.{pick, within, allOf, anyOf, indexOf, elem, same}
 
 -- ---- conjunction and disjunction
 
@@ -32,6 +32,11 @@ or-right false b e = e
 pub either : {A : Type 0} (a b : Bool) → a || b ≡ true → (a ≡ true → A) → (b ≡ true → A) → A
 either true b e f g = f refl
 either false b e f g = g e
+
+-- by the two answers of a test
+pub by-test : (P : Bool → Type 0) (x : Bool) → (x ≡ true → P true) → (x ≡ false → P false) → P x
+by-test P true f g = f refl
+by-test P false f g = g refl
 
 -- what cannot be true is false
 pub refuted : (b : Bool) → (b ≡ true → ⊥) → b ≡ false
@@ -102,6 +107,16 @@ all-none f g imp (x ∷ xs) e =
     let p = both (f x) (allOf f xs) e in
     rw (imp x (p .0)) (all-none f g imp xs (p .1))
 
+-- where f holds of all, g of none, and what f holds of is g's or h's, h holds of all
+pub all-but : {A : Type 0} (f g h : A → Bool) (imp : (c : A) → f c ≡ true → g c ≡ false → h c ≡ true) (l : List A)
+    → allOf f l ≡ true → anyOf g l ≡ false → allOf h l ≡ true
+unfolding allOf anyOf
+all-but f g h imp [] e n = refl
+all-but f g h imp (x ∷ xs) e n =
+    let p = both (f x) (allOf f xs) e in
+    let q = neither (g x) (anyOf g xs) n in
+    rw (imp x (p .0) (q .0)) (all-but f g h imp xs (p .1) (q .1))
+
 -- where f holds of one, so does what f implies, and there is one
 module _ {A : Type 0} (f : A → Bool) where
   pub any-weaker : (g : A → Bool) (imp : (c : A) → f c ≡ true → g c ≡ true) (l : List A) → anyOf f l ≡ true → anyOf g l ≡ true
@@ -117,6 +132,16 @@ module _ {A : Type 0} (f : A → Bool) where
   unfolding anyOf
   any-some [] e = absurd (false≢true e)
   any-some (x ∷ xs) e = omega arith
+
+-- the first entry of which f holds stands in the list, or just past its end
+pub index-bound : {A : Type 0} (f : A → Bool) (l : List A) → indexOf f l ≤ length l
+unfolding indexOf
+index-bound f [] = omega arith
+index-bound f (x ∷ xs) = go (f x) (index-bound f xs)
+  where
+    go : (b : Bool) → indexOf f xs ≤ length xs → pick b 0 (suc (indexOf f xs)) ≤ suc (length xs)
+    go true h = omega arith
+    go false h = omega arith
 
 -- what holds of every entry of a table holds of c, where a test that only c passes holds of one of them
 module _ {A : Type 0} (c : A) (is : A → Bool) (only : (x : A) → is x ≡ true → c ≡ x) (f : A → Bool) where

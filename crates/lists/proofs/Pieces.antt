@@ -7,7 +7,7 @@ use native.Mathlib.Numerals.{add-one}
 use native.Mathlib.Omega.{arith}
 use lib.ListN.{length, take, drop, set, getD, length-append, length-drop}
 use lib.Seq.{paste, paste-suc, take-all, take-at, drop-at, drop-drop, set-split, append-snoc, length-take-le}
-use Rattle.lists.specs.Front.{Puts}
+use Rattle.lists.specs.Front.{written, Puts}
 
 module _ {p b₀ b₁ : List ℕ} {n m : ℕ} (x : Puts p b₀ b₁ n m) where
   head : length (take n b₀ ++ p) ≡ m
@@ -32,6 +32,32 @@ module _ {p b₀ b₁ : List ℕ} {n m : ℕ} (x : Puts p b₀ b₁ n m) where
             ∙ ap (λ (l : List ℕ). take n b₀ ++ p ++ q ++ l) rest ∙ ap (λ (k : ℕ). take n b₀ ++ p ++ q ++ drop k b₀) (sym (y .place))
             ∙ ap (λ (l : List ℕ). l ++ drop r b₀) (append-assoc (take n b₀) p q);
       }
+
+  -- inside the buffer, as it is then
+  pub puts-inside : m ≤ length b₁
+  puts-inside = omega (arith, x .room, puts-length)
+
+-- nothing put leaves all as it was
+pub nothing : {before : List ℕ} → Puts [] before before 0 0
+nothing = record { place = refl; room = omega arith; buffer = refl }
+
+-- what is put decides the buffer, and the place past it
+pub puts-once : {xs ys before a b : List ℕ} {n m k : ℕ} → xs ≡ ys → Puts xs before a n m → Puts ys before b n k → (a ≡ b) × (m ≡ k)
+puts-once {xs} {ys} {before} {n = n} {m} {k} e x y =
+    let z : m ≡ k = x .place ∙ ap (λ (l : List ℕ). n + length l) e ∙ sym (y .place) in
+    (x .buffer ∙ ap (λ (l : List ℕ). take n before ++ l ++ drop m before) e ∙ ap (λ (r : ℕ). take n before ++ ys ++ drop r before) z ∙ sym (y .buffer), z)
+
+-- put from 0 on it is written at the start, and read back there
+module _ {xs before after : List ℕ} {r : ℕ} (x : Puts xs before after 0 r) where
+  pub puts-count : r ≡ length xs
+  puts-count = omega (arith, x .place)
+
+  pub puts-written : after ≡ written xs before
+  unfolding written
+  puts-written = x .buffer ∙ ap (λ (k : ℕ). xs ++ drop k before) puts-count
+
+  pub puts-front : take r after ≡ xs
+  puts-front = ap (take r) (x .buffer) ∙ take-at xs (drop r before) r (sym puts-count)
 
 -- ---- a loop that puts s entry by entry, and one entry
 

@@ -11,7 +11,7 @@ use lib.Dec.{eqb, ltb}
 use lib.ListN.{length, take, drop, getD, drop-of-length-le}
 use lib.Seq.{drop-cons, split-at}
 use borrow.Author.Tests.{eq-eqb, ne-eqb, lt-ltb, le-ltb, ltb-true}
-use Rattle.lists.specs.Tests.{pick, allOf, anyOf, firstOf, elem, same}
+use Rattle.lists.specs.Tests.{pick, allOf, anyOf, indexOf, elem, same}
 use Rattle.lists.proofs.Laws.{neither, lt-or-le}
 
 module _ (f : ℕ → Bool) (t : List ℕ) (i : ℕ) where
@@ -36,14 +36,14 @@ module _ (f : ℕ → Bool) (t : List ℕ) (i : ℕ) where
     pub all-on : {b : Bool} → allOf f t ≡ allOf f (drop i t) → b ≡ f (getD t i 0) → b ≡ true → allOf f t ≡ allOf f (drop (i + 1) t)
     all-on e p q = e ∙ all-peel ∙ simp (sym p ∙ q)
 
-    first-peel : firstOf f (drop i t) ≡ pick (f (getD t i 0)) 0 (suc (firstOf f (drop (i + 1) t)))
-    unfolding firstOf
+    first-peel : indexOf f (drop i t) ≡ pick (f (getD t i 0)) 0 (suc (indexOf f (drop (i + 1) t)))
+    unfolding indexOf
     first-peel = rw (add-one, drop-cons t i 0)
 
-    pub first-here : {b : Bool} (n : ℕ) → n ≡ i + firstOf f (drop i t) → b ≡ f (getD t i 0) → b ≡ true → i ≡ n
+    pub first-here : {b : Bool} (n : ℕ) → n ≡ i + indexOf f (drop i t) → b ≡ f (getD t i 0) → b ≡ true → i ≡ n
     first-here n e p q = omega (arith, simp (sym p ∙ q) at first-peel)
 
-    pub first-on : {b : Bool} (n : ℕ) → n ≡ i + firstOf f (drop i t) → b ≡ f (getD t i 0) → b ≡ false → n ≡ i + 1 + firstOf f (drop (i + 1) t)
+    pub first-on : {b : Bool} (n : ℕ) → n ≡ i + indexOf f (drop i t) → b ≡ f (getD t i 0) → b ≡ false → n ≡ i + 1 + indexOf f (drop (i + 1) t)
     first-on n e p q = omega (arith, simp (sym p ∙ q) at first-peel)
 
   pub any-end : length t ≤ i → anyOf f t ≡ anyOf f (drop i t) → false ≡ anyOf f t
@@ -54,9 +54,9 @@ module _ (f : ℕ → Bool) (t : List ℕ) (i : ℕ) where
   unfolding allOf
   all-end h e = sym (e ∙ rw (drop-of-length-le t h))
 
-  pub first-end : (n : ℕ) → length t ≤ i → n ≡ i + firstOf f (drop i t) → i ≡ n
-  unfolding firstOf
-  first-end n h e = omega (arith, ap (firstOf f) (drop-of-length-le t h))
+  pub first-end : (n : ℕ) → length t ≤ i → n ≡ i + indexOf f (drop i t) → i ≡ n
+  unfolding indexOf
+  first-end n h e = omega (arith, ap (indexOf f) (drop-of-length-le t h))
 
 -- ---- the first entry of which the test holds
 
@@ -66,51 +66,51 @@ below-suc a b =
     (lt-or-le a b)
 
 module _ (f : ℕ → Bool) where
-  any-first : (xs : List ℕ) → anyOf f xs ≡ ltb (firstOf f xs) (length xs)
-  unfolding anyOf firstOf
+  any-first : (xs : List ℕ) → anyOf f xs ≡ ltb (indexOf f xs) (length xs)
+  unfolding anyOf indexOf
   any-first [] = refl
   any-first (x ∷ xs) = go (f x) (any-first xs)
     where
-      go : (b : Bool) → anyOf f xs ≡ ltb (firstOf f xs) (length xs) → b || anyOf f xs ≡ ltb (pick b 0 (suc (firstOf f xs))) (suc (length xs))
+      go : (b : Bool) → anyOf f xs ≡ ltb (indexOf f xs) (length xs) → b || anyOf f xs ≡ ltb (pick b 0 (suc (indexOf f xs))) (suc (length xs))
       go true e = sym (lt-ltb 0 (suc (length xs)) (omega arith))
-      go false e = e ∙ below-suc (firstOf f xs) (length xs)
+      go false e = e ∙ below-suc (indexOf f xs) (length xs)
 
-  pub found : (xs : List ℕ) → firstOf f xs < length xs → anyOf f xs ≡ true
-  found xs h = any-first xs ∙ lt-ltb (firstOf f xs) (length xs) h
+  pub found : (xs : List ℕ) → indexOf f xs < length xs → anyOf f xs ≡ true
+  found xs h = any-first xs ∙ lt-ltb (indexOf f xs) (length xs) h
 
-  pub not-found : (xs : List ℕ) → length xs ≤ firstOf f xs → anyOf f xs ≡ false
-  not-found xs h = any-first xs ∙ le-ltb (firstOf f xs) (length xs) h
+  pub not-found : (xs : List ℕ) → length xs ≤ indexOf f xs → anyOf f xs ≡ false
+  not-found xs h = any-first xs ∙ le-ltb (indexOf f xs) (length xs) h
 
-  pub found-inside : (xs : List ℕ) → anyOf f xs ≡ true → firstOf f xs < length xs
-  found-inside xs e = ltb-true (firstOf f xs) (length xs) (sym (any-first xs) ∙ e)
+  pub found-inside : (xs : List ℕ) → anyOf f xs ≡ true → indexOf f xs < length xs
+  found-inside xs e = ltb-true (indexOf f xs) (length xs) (sym (any-first xs) ∙ e)
 
-  pub none-before : (xs : List ℕ) → anyOf f (take (firstOf f xs) xs) ≡ false
-  unfolding anyOf firstOf
+  pub none-before : (xs : List ℕ) → anyOf f (take (indexOf f xs) xs) ≡ false
+  unfolding anyOf indexOf
   none-before [] = refl
   none-before (x ∷ xs) = go (f x) refl (none-before xs)
     where
-      go : (b : Bool) → f x ≡ b → anyOf f (take (firstOf f xs) xs) ≡ false → anyOf f (take (pick b 0 (suc (firstOf f xs))) (x ∷ xs)) ≡ false
+      go : (b : Bool) → f x ≡ b → anyOf f (take (indexOf f xs) xs) ≡ false → anyOf f (take (pick b 0 (suc (indexOf f xs))) (x ∷ xs)) ≡ false
       go true e h = refl
       go false e h = rw e h
 
-  holds-there : (xs : List ℕ) → firstOf f xs < length xs → f (getD xs (firstOf f xs) 0) ≡ true
-  unfolding firstOf
+  holds-there : (xs : List ℕ) → indexOf f xs < length xs → f (getD xs (indexOf f xs) 0) ≡ true
+  unfolding indexOf
   holds-there [] h = absurd (omega arith)
   holds-there (x ∷ xs) h = go (f x) refl h (holds-there xs)
     where
-      go : (b : Bool) → f x ≡ b → pick b 0 (suc (firstOf f xs)) < suc (length xs) → (firstOf f xs < length xs → f (getD xs (firstOf f xs) 0) ≡ true)
-          → f (getD (x ∷ xs) (pick b 0 (suc (firstOf f xs))) 0) ≡ true
+      go : (b : Bool) → f x ≡ b → pick b 0 (suc (indexOf f xs)) < suc (length xs) → (indexOf f xs < length xs → f (getD xs (indexOf f xs) 0) ≡ true)
+          → f (getD (x ∷ xs) (pick b 0 (suc (indexOf f xs))) 0) ≡ true
       go true e k on = e
       go false e k on = on (omega arith)
 
   -- a test that holds of c alone cuts a list at the first c
-  pub cut-first : (c : ℕ) → ((b : ℕ) → f b ≡ true → b ≡ c) → (xs : List ℕ) → firstOf f xs < length xs → xs ≡ take (firstOf f xs) xs ++ c ∷ drop (suc (firstOf f xs)) xs
+  pub cut-first : (c : ℕ) → ((b : ℕ) → f b ≡ true → b ≡ c) → (xs : List ℕ) → indexOf f xs < length xs → xs ≡ take (indexOf f xs) xs ++ c ∷ drop (suc (indexOf f xs)) xs
   cut-first c only xs h =
-      let u : ℕ = firstOf f xs in
+      let u : ℕ = indexOf f xs in
       split-at xs u 0 h ∙ ap (λ (b : ℕ). take u xs ++ b ∷ drop (suc u) xs) (only _ (holds-there xs h))
 
-  pub first-past : (xs : List ℕ) (c : ℕ) (ys : List ℕ) → anyOf f xs ≡ false → f c ≡ true → firstOf f (xs ++ c ∷ ys) ≡ length xs
-  unfolding anyOf firstOf
+  pub first-past : (xs : List ℕ) (c : ℕ) (ys : List ℕ) → anyOf f xs ≡ false → f c ≡ true → indexOf f (xs ++ c ∷ ys) ≡ length xs
+  unfolding anyOf indexOf
   first-past [] c ys e h = rw h
   first-past (x ∷ xs) c ys e h = let p = neither (f x) (anyOf f xs) e in rw (p .0) (ap suc (first-past xs c ys (p .1) h))
 

@@ -8,7 +8,8 @@ use native.Mathlib.Omega.{arith}
 use lib.Dec.{ltb}
 use borrow.Author.Tests.{eq-eqb, ne-eqb, ltb-true}
 use Rattle.lists.specs.Tests.{pick, allOf}
-use Rattle.lists.specs.Rows.{Row, row, Answer, accepted, first, Clear, given}
+use Rattle.lists.specs.Rows.{Row, row, accepted, says, first, Clear, given}
+use Rattle.lists.specs.declared.Answer.{Answer}
 use Rattle.lists.proofs.Laws.{both}
 
 -- a row that does not apply is passed over; the first that applies is the answer
@@ -41,20 +42,52 @@ accepted-clear (r ∷ rs) w e =
     let k = both (ltb 0 (r .number)) (allOf (λ (s : Row). ltb 0 (s .number)) rs) w in
     go (r .applies) refl (k .0) e (accepted-clear rs (k .1))
   where
-    go : (b : Bool) → r .applies ≡ b → ltb 0 (r .number) ≡ true → (pick b (record { number = r .number; place = r .place }) (first rs)) .number ≡ 0
+    go : (b : Bool) → r .applies ≡ b → ltb 0 (r .number) ≡ true → (pick b (says r) (first rs)) .number ≡ 0
         → (first rs .number ≡ 0 → Clear rs) → (r .applies ≡ false) × Clear rs
     go true p w e on = absurd (omega (arith, ltb-true 0 (r .number) w))
     go false p w e on = (p, on e)
 
--- what 0 and the number of every row pass, the answer's number passes
-pub numbered : (f : ℕ → Bool) → f 0 ≡ true → (rs : List Row) → allOf (λ (r : Row). f (r .number)) rs ≡ true → f (first rs .number) ≡ true
-unfolding first allOf
-numbered f z [] w = z
-numbered f z (r ∷ rs) w =
-    let k = both (f (r .number)) (allOf (λ (s : Row). f (s .number)) rs) w in
-    go (r .applies) (k .0) (numbered f z rs (k .1))
+-- ---- one table after another
+
+pub split-clear : (rs ss : List Row) → Clear (rs ++ ss) → Clear rs × Clear ss
+split-clear [] ss c = (tt, c)
+split-clear (r ∷ rs) ss c = let k = split-clear rs ss (c .1) in ((c .0, k .0), k .1)
+
+pub join-clear : (rs ss : List Row) → Clear rs → Clear ss → Clear (rs ++ ss)
+join-clear [] ss c d = d
+join-clear (r ∷ rs) ss c d = (c .0, join-clear rs ss (c .1) d)
+
+-- a refusal stands, whatever table follows
+pub refused-before : (rs ss : List Row) → (first rs .number ≡ 0 → ⊥) → first (rs ++ ss) ≡ first rs
+unfolding first
+refused-before [] ss n = absurd (n refl)
+refused-before (r ∷ rs) ss n = go (r .applies) n (refused-before rs ss)
   where
-    go : (b : Bool) → f (r .number) ≡ true → f (first rs .number) ≡ true → f ((pick b (record { number = r .number; place = r .place }) (first rs)) .number) ≡ true
+    go : (b : Bool) → ((pick b (says r) (first rs)) .number ≡ 0 → ⊥)
+        → ((first rs .number ≡ 0 → ⊥) → first (rs ++ ss) ≡ first rs)
+        → pick b (says r) (first (rs ++ ss)) ≡ pick b (says r) (first rs)
+    go true n on = refl
+    go false n on = on n
+
+-- of two tables one gives the answer
+pub of-two : (Q : Answer → Type 0) (rs ss : List Row) → Q (first rs) → Q (first ss) → Q (first (rs ++ ss))
+unfolding first
+of-two Q [] ss p q = q
+of-two Q (r ∷ rs) ss p q = go (r .applies) p (of-two Q rs ss)
+  where
+    go : (b : Bool) → Q (pick b (says r) (first rs)) → (Q (first rs) → Q (first ss) → Q (first (rs ++ ss))) → Q (pick b (says r) (first (rs ++ ss)))
+    go true p on = p
+    go false p on = on p q
+
+-- what accepted passes and each row passes, the answer passes
+pub of-rows : (f : Answer → Bool) → f accepted ≡ true → (rs : List Row) → allOf (λ (r : Row). f (says r)) rs ≡ true → f (first rs) ≡ true
+unfolding first allOf
+of-rows f z [] w = z
+of-rows f z (r ∷ rs) w =
+    let k = both (f (says r)) (allOf (λ (s : Row). f (says s)) rs) w in
+    go (r .applies) (k .0) (of-rows f z rs (k .1))
+  where
+    go : (b : Bool) → f (says r) ≡ true → f (first rs) ≡ true → f (pick b (says r) (first rs)) ≡ true
     go true p q = p
     go false p q = q
 

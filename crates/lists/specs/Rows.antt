@@ -5,6 +5,7 @@ use mathlib.Core.Path.{_≡_}
 use Prim.Native.Nat.{ℕ}
 use lib.Dec.{eqb}
 use Rattle.lists.specs.Tests.{pick}
+use Rattle.lists.specs.declared.Answer.{Answer}
 
 -- a refusal: its number, when it applies, and its place
 pub record Row : Type 0 where
@@ -15,18 +16,18 @@ pub record Row : Type 0 where
 abbrev pub row : ℕ → Bool → ℕ → Row
 row n b p = record { number = n; applies = b; place = p }
 
-pub record Answer : Type 0 where
-  pub number : ℕ
-  pub place : ℕ
-
 -- 0 is accepted
 abbrev pub accepted : Answer
 accepted = record { number = 0; place = 0 }
 
+-- what a row answers where it applies
+abbrev pub says : Row → Answer
+says r = record { number = r .number; place = r .place }
+
 -- the first row that applies, or accepted
 unfoldable pub first : List Row → Answer
 first [] = accepted
-first (r ∷ rs) = pick (r .applies) (record { number = r .number; place = r .place }) (first rs)
+first (r ∷ rs) = pick (r .applies) (says r) (first rs)
 
 -- no row of the table applies
 abbrev pub Clear : List Row → Type 0

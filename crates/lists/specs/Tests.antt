@@ -23,9 +23,9 @@ anyOf f [] = false
 anyOf f (x ∷ xs) = f x || anyOf f xs
 
 -- the index of the first entry of which the test holds, or the length
-unfoldable pub firstOf : {A : Type 0} → (A → Bool) → List A → ℕ
-firstOf f [] = 0
-firstOf f (x ∷ xs) = pick (f x) 0 (suc (firstOf f xs))
+unfoldable pub indexOf : {A : Type 0} → (A → Bool) → List A → ℕ
+indexOf f [] = 0
+indexOf f (x ∷ xs) = pick (f x) 0 (suc (indexOf f xs))
 
 -- c is an entry of xs
 unfoldable pub elem : ℕ → List ℕ → Bool

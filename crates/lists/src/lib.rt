@@ -6,6 +6,12 @@ ghost use lib.ListN.{length, take};
 ghost use Rattle.lists.specs.Tests.{same, elem};
 ghost use Rattle.lists.specs.Front.{written};
 
+// What a table of refusals answers (specs/Rows): a number, 0 where nothing is refused, and its place.
+pub struct Answer {
+    pub number: u8,
+    pub place: usize,
+}
+
 // Are the two the same?
 pub fn same(a: &[u32], b: &[u32]) -> bool
     ensures { λ r. ⌜ r ≡ same (now (a .entry)) (now (b .entry)) ⌝ }

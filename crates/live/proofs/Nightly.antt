@@ -6,24 +6,25 @@ use mathlib.Core.List.{List}
 use Prim.Native.Nat.{ℕ, _≤_, _<_}
 use native.Mathlib.Omega.{arith}
 use lib.ListN.{length}
-use borrow.Author.Tests.{lt-ltb, le-ltb, ne-eqb}
-use Rattle.lists.specs.Rows.{first}
+use borrow.Author.Tests.{lt-ltb, le-ltb}
 use Rattle.normal.specs.Normal.{normalForm}
 use Rattle.rules.specs.Permits.{Permits, Laws}
-use Rattle.rules.specs.Rules.{textRows, verdict, rules}
+use Rattle.rules.specs.Rules.{rules}
 use Rattle.rules.specs.declared.Verdict.{Verdict}
-use Rattle.names.specs.Calls.{shown, padded, judged, Checks, AsciiForms}
+use Rattle.rules.proofs.Steps.{front-3, text-front}
+use Rattle.names.specs.Calls.{shown, padded, judged, checkSaid, Checks, asciiSaid, AsciiForms}
+use Rattle.names.specs.declared.AsciiForm.{AsciiForm}
 use Rattle.names.specs.declared.Checked.{Checked}
 use Rattle.names.specs.declared.Judged.{Judged}
-use Rattle.names.proofs.Demands.{said, check-says, ascii-says}
+use Rattle.names.proofs.Demands.{check-says, ascii-says}
 use Rattle.live.specs.Live.{fresh, typed, tooLong, looked, Agrees}
 use Rattle.live.proofs.Typing.{live-is}
 
 module _ (P : Permits) where
   -- past 256 the rules say 3 at place 256, and there is no text
   pub past : (t : List ℕ) → 256 < length t → judged P t ≡ tooLong
-  unfolding judged rules verdict textRows first shown padded tooLong
-  past t h = rw (ne-eqb (length t) 0 (omega arith), lt-ltb 256 (length t) h)
+  unfolding judged shown padded tooLong
+  past t h = rw (text-front P t (front-3 P t (λ e. omega arith) h) (λ e. omega arith), lt-ltb 256 (length t) h)
 
   pub live-is-nightly : (cs : List ℕ) → looked P (typed fresh cs) ≡ judged P cs
   unfolding looked
@@ -49,8 +50,8 @@ module _ (P : Permits) where
 
 -- ---- the look and the nightly calls
 
-module _ (P : Permits) (cs : List ℕ) {j : Judged} {r : Checked} (look : j ≡ looked P (typed fresh cs)) where
-  agrees : said r ≡ rules P cs → Agrees j r
+module _ (P : Permits) (cs : List ℕ) {j : Judged} (look : j ≡ looked P (typed fresh cs)) where
+  agrees : {v : Verdict} → v ≡ rules P cs → Agrees j v
   agrees e = record {
     number = ap (λ (x : Judged). x .number) look ∙ same-number P cs ∙ sym (ap (λ (v : Verdict). v .number) e);
     place = ap (λ (x : Judged). x .place) look ∙ same-place P cs ∙ sym (ap (λ (v : Verdict). v .place) e);
@@ -58,9 +59,9 @@ module _ (P : Permits) (cs : List ℕ) {j : Judged} {r : Checked} (look : j ≡ 
   }
 
   -- the look after any code points and the check of that text say the same
-  pub look-and-check : {before after : List ℕ} → Checks P cs before after r → 256 ≤ length before → Agrees j r
+  pub look-and-check : {before after : List ℕ} {r : Checked} → Checks P cs before after r → 256 ≤ length before → Agrees j (checkSaid r)
   look-and-check c room = agrees (check-says P c room)
 
   -- and the call for its ASCII form
-  pub look-and-ascii : Laws P → {before after : List ℕ} → AsciiForms P cs before after r → 192 ≤ length before → Agrees j r
+  pub look-and-ascii : Laws P → {before after : List ℕ} {r : AsciiForm} → AsciiForms P cs before after r → 192 ≤ length before → Agrees j (asciiSaid r)
   look-and-ascii L a room = agrees (ascii-says P L a room)

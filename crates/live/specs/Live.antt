@@ -1,5 +1,5 @@
--- The live check: document 01, 'The live check'. A state, what a step makes of it, what a look shows, and whether what was typed may yet
--- become a name, of any state.
+-- The live check: document 01, 'The live check'. A state, what a step makes of it, what a look shows, and whether
+-- what was typed may yet become a name, of any state.
 use mathlib.Core.Bool.{Bool, false}
 use mathlib.Core.List.{List, [], _∷_}
 use mathlib.Core.Path.{_≡_}
@@ -8,10 +8,10 @@ use lib.Dec.{ltb}
 use lib.ListN.{take, set, replicate}
 use Rattle.lists.specs.Tests.{pick}
 use Rattle.names.specs.Calls.{judged}
-use Rattle.names.specs.declared.Checked.{Checked}
 use Rattle.names.specs.declared.Judged.{Judged}
 use Rattle.rules.specs.Permits.{Permits}
 use Rattle.rules.specs.Hopeful.{hopeful}
+use Rattle.rules.specs.declared.Verdict.{Verdict}
 use Rattle.rules.specs.declared.Class.the-variants.{None}
 use Rattle.live.specs.declared.Live.{Live}
 
@@ -42,11 +42,11 @@ tooLong = record { number = 3; place = 256; class = None; form = replicate 256 0
 unfoldable pub looked : Permits → Live → Judged
 looked P l = lookedBy (judged P) tooLong l
 
--- a look and a nightly answer of the same number, place and class
-pub record Agrees (j : Judged) (r : Checked) : Type 0 where
-  pub number : j .number ≡ r .number
-  pub place : j .place ≡ r .place
-  pub class : j .class ≡ r .class
+-- a look, and what a nightly call says: the same number, place and class
+pub record Agrees (j : Judged) (v : Verdict) : Type 0 where
+  pub number : j .number ≡ v .number
+  pub place : j .place ≡ v .place
+  pub class : j .class ≡ v .class
 
 -- whether what was typed may yet become a name; past 256 it may not
 unfoldable pub hoped : Permits → Live → Bool

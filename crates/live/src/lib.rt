@@ -57,8 +57,8 @@ impl Live {
         if 256 < n {
             return too_long();
         }
-        let whole: &[u32] = &self.text;
-        names::judge_with(kanji, &whole[0..n])
+        let buffer: &[u32] = &self.text;
+        names::judge_with(kanji, &buffer[0..n])
     }
 
     pub fn look(self) -> names::Judged
@@ -76,8 +76,8 @@ impl Live {
         if 256 < n {
             return false;
         }
-        let whole: &[u32] = &self.text;
-        names::may_become_with(kanji, &whole[0..n])
+        let buffer: &[u32] = &self.text;
+        names::may_become_with(kanji, &buffer[0..n])
     }
 
     pub fn may_become(self) -> bool

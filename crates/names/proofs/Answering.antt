@@ -9,74 +9,74 @@ use native.Mathlib.Omega.{arith}
 use lib.Dec.{ltb}
 use lib.ListN.{length, take, drop}
 use lib.Seq.{take-all}
-use borrow.Author.Tests.{ne-eqb, lt-ltb, le-ltb, ltb-false}
+use borrow.Author.Tests.{ne-eqb, lt-ltb, le-ltb}
 use Rattle.lists.specs.Tests.{allOf, anyOf}
 use Rattle.lists.specs.Front.{written}
-use Rattle.lists.specs.Rows.{Row, row, Answer, first, given, Clear}
+use Rattle.lists.specs.Rows.{Row, row, first, given, Clear}
+use Rattle.lists.specs.declared.Answer.{Answer}
 use Rattle.lists.proofs.Fronts.{untouched}
-use Rattle.lists.proofs.Tables.{clear, clear-before, hit, passed-over, refusing, accepted-clear, given-none}
+use Rattle.lists.proofs.Tables.{clear, clear-before, split-clear, refused-before, hit, passed-over, refusing, accepted-clear, given-none}
 use Rattle.normal.specs.Normal.{normalForm}
 use Rattle.normal.proofs.Laws.{no-longer}
 use Rattle.rules.specs.Labels.{labels}
 use Rattle.rules.specs.Permits.{Permits}
-use Rattle.rules.specs.Rules.{labelRows, nameRows, textRows, classOf, verdict, rules}
+use Rattle.rules.specs.Rules.{labelRows, nameRows, frontRows, textRows, classOf, verdict, rules, accepted, refused}
 use Rattle.rules.specs.declared.Class.{Class}
-use Rattle.rules.proofs.Steps.{refused-before}
-use Rattle.names.specs.Calls.{checked, Answers, checkRows, Checks, uncoded, asciiForm, asciiRows, AsciiForms}
-use Rattle.names.specs.Steps.{refusedCall, Judges}
+use Rattle.rules.specs.declared.Verdict.{Verdict}
+use Rattle.rules.proofs.ByName.{clear-text, text-cleared}
+use Rattle.names.specs.Calls.{Answers, checked, checkRows, Checks, uncoded, asciiForm, asciiFormed, asciiRows, AsciiForms}
+use Rattle.names.specs.Steps.{Judges}
+use Rattle.names.specs.declared.AsciiForm.{AsciiForm}
 use Rattle.names.specs.declared.Checked.{Checked}
-use Rattle.names.proofs.Judging.{shown-whole, fronted}
+use Rattle.names.specs.declared.judges.Ruled.{Ruled}
+use Rattle.names.proofs.Judging.{shown-full, fronted}
 
 -- ---- any call that writes
 
-module _ (rows : List Row) (text xs before : List ℕ) where
-  answers-no : {n p : ℕ} {r : Checked} → r ≡ refusedCall n p → first rows ≡ record { number = n; place = p } → (n ≡ 0 → ⊥)
-      → Answers rows text xs before before r
-  unfolding checked verdict
+module _ {R : Type 0} (make : Verdict → ℕ → R) (rows : List Row) (text xs before : List ℕ) where
+  answers-no : {n p : ℕ} {r : R} → r ≡ make (refused n p) 0 → first rows ≡ record { number = n; place = p } → (n ≡ 0 → ⊥)
+      → Answers make rows text xs before before r
+  unfolding verdict
   answers-no {n} {p} q e h =
       let none = given-none (record { number = n; place = p }) xs h in
       record { result = q ∙ rw (e, none, ne-eqb n 0 h); buffer = rw (e, none) (sym (untouched before)) }
 
   answers-yes : {k : Class} {n : ℕ} {after : List ℕ} → first rows ≡ record { number = 0; place = 0 } → k ≡ classOf (labels (normalForm text))
-      → n ≡ length xs → after ≡ written xs before → Answers rows text xs before after (record { number = 0; place = 0; class = k; length = n })
-  unfolding checked verdict given
+      → n ≡ length xs → after ≡ written xs before → Answers make rows text xs before after (make (accepted k) n)
+  unfolding verdict given
   answers-yes e p q w = record { result = rw (e, p, q); buffer = rw e w }
 
 -- ---- an accepted name
 
-pub cleared : (P : Permits) (text : List ℕ) → first (textRows P text) .number ≡ 0 → Clear (textRows P text)
-unfolding refusing allOf textRows nameRows labelRows
-cleared P text e = accepted-clear (textRows P text) refl e
-
-pub record Passed (P : Permits) (text after : List ℕ) (j : Checked) : Type 0 where
+pub record Accepted (P : Permits) (text after : List ℕ) (j : Ruled) : Type 0 where
   pub clear : Clear (textRows P text)
   pub class : j .class ≡ classOf (labels (normalForm text))
   pub form : take (j .length - 0) (drop 0 after) ≡ normalForm text
   pub size : j .length ≡ length (normalForm text)
   pub few : j .length ≤ 256
 
-module _ (P : Permits) (text : List ℕ) {lent after : List ℕ} {j : Checked} (e : Judges P text lent after j) where
+module _ (P : Permits) (text : List ℕ) {lent after : List ℕ} {j : Ruled} (e : Judges P text lent after j) where
   number-is : j .number ≡ first (textRows P text) .number
   unfolding rules verdict
-  number-is = ap (λ (x : Checked). x .number) (e .result)
+  number-is = ap (λ (x : Ruled). x .number) (e .result)
 
   place-is : j .place ≡ first (textRows P text) .place
   unfolding rules verdict
-  place-is = ap (λ (x : Checked). x .place) (e .result)
+  place-is = ap (λ (x : Ruled). x .place) (e .result)
 
   pub answer-is : first (textRows P text) ≡ record { number = j .number; place = j .place }
   answer-is = rw (number-is, place-is)
 
-  pub passed : j .number ≡ 0 → Passed P text after j
-  unfolding rules verdict textRows
-  passed z =
-      let all = cleared P text (sym number-is ∙ z) in
-      let few : length text ≤ 256 = ltb-false 256 (length text) (all .1 .0) in
-      let shows = shown-whole text few in
-      let size : j .length ≡ length (normalForm text) = ap (λ (x : Checked). x .length) (e .result) ∙ ap length shows in
+  pub accepted-as : j .number ≡ 0 → Accepted P text after j
+  unfolding rules verdict
+  accepted-as z =
+      let all = text-cleared P text (sym number-is ∙ z) in
+      let few = clear-text P text all .0 .few in
+      let shows = shown-full text few in
+      let size : j .length ≡ length (normalForm text) = ap (λ (x : Ruled). x .length) (e .result) ∙ ap length shows in
       record {
         clear = all;
-        class = ap (λ (x : Checked). x .class) (e .result) ∙ rw (sym number-is ∙ z);
+        class = ap (λ (x : Ruled). x .class) (e .result) ∙ rw (sym number-is ∙ z);
         form = rw (size, e .buffer, shows) (fronted (normalForm text) lent);
         size = size;
         few = omega (arith, no-longer text);
@@ -85,53 +85,64 @@ module _ (P : Permits) (text : List ℕ) {lent after : List ℕ} {j : Checked} (
 -- ---- the check
 
 module _ (P : Permits) (text before : List ℕ) where
-  pub check-no-room : {r : Checked} → r ≡ refusedCall 1 0 → length before < 256 → Checks P text before before r
+  pub check-no-room : {r : Checked} → r ≡ checked (refused 1 0) 0 → length before < 256 → Checks P text before before r
   unfolding checkRows
-  check-no-room q h = answers-no _ text _ before q (hit 1 (ltb (length before) 256) 0 _ (lt-ltb (length before) 256 h)) (λ z. omega arith)
+  check-no-room q h = answers-no checked _ text _ before q (hit 1 (ltb (length before) 256) 0 _ (lt-ltb (length before) 256 h)) (λ z. omega arith)
 
-  module _ (h : 256 ≤ length before) {lent form : List ℕ} {j : Checked} (e : Judges P text lent form j) where
+  module _ (h : 256 ≤ length before) {lent form : List ℕ} {j : Ruled} (e : Judges P text lent form j) where
     checking : first (checkRows P text (length before)) ≡ first (textRows P text)
     unfolding checkRows
     checking = passed-over 1 (ltb (length before) 256) 0 _ (le-ltb (length before) 256 h)
 
-    pub check-refused : {r : Checked} → r ≡ refusedCall (j .number) (j .place) → (j .number ≡ 0 → ⊥) → Checks P text before before r
-    check-refused q n = answers-no _ text _ before q (checking ∙ answer-is P text e) n
+    pub check-refused : {r : Checked} → r ≡ checked (refused (j .number) (j .place)) 0 → (j .number ≡ 0 → ⊥) → Checks P text before before r
+    check-refused q n = answers-no checked _ text _ before q (checking ∙ answer-is P text e) n
 
     pub check-accepted : {after : List ℕ} (z : j .number ≡ 0)
         → after ≡ written (take (length before) (take (j .length - 0) (drop 0 form))) before
         → Checks P text before after (record { number = 0; place = 0; class = j .class; length = j .length })
     check-accepted z w =
-        let p = passed P text e z in
+        let p = accepted-as P text e z in
         let all : take (length before) (normalForm text) ≡ normalForm text = take-all (length before) (normalForm text) (omega (arith, p .size, p .few)) in
-        answers-yes _ text _ before (checking ∙ clear (textRows P text) (p .clear)) (p .class) (p .size) (w ∙ rw (p .form, all))
+        answers-yes checked _ text _ before (checking ∙ clear (textRows P text) (p .clear)) (p .class) (p .size) (w ∙ rw (p .form, all))
 
 -- ---- the whole ASCII form
 
 module _ (P : Permits) (text before : List ℕ) where
-  pub ascii-no-room : {r : Checked} → r ≡ refusedCall 1 0 → length before < 192 → AsciiForms P text before before r
+  pub ascii-no-room : {r : AsciiForm} → r ≡ asciiFormed (refused 1 0) 0 → length before < 192 → AsciiForms P text before before r
   unfolding asciiRows
-  ascii-no-room q h = answers-no _ text _ before q (hit 1 (ltb (length before) 192) 0 _ (lt-ltb (length before) 192 h)) (λ z. omega arith)
+  ascii-no-room q h = answers-no asciiFormed _ text _ before q (hit 1 (ltb (length before) 192) 0 _ (lt-ltb (length before) 192 h)) (λ z. omega arith)
 
   module _ (h : 192 ≤ length before) where
     encoding : first (asciiRows P text (length before)) ≡ first (textRows P text ++ row 14 (anyOf (uncoded P) (labels (normalForm text))) 0 ∷ [])
     unfolding asciiRows
     encoding = passed-over 1 (ltb (length before) 192) 0 _ (le-ltb (length before) 192 h)
 
-    pub ascii-refused : {n p : ℕ} {r : Checked} → first (textRows P text) ≡ record { number = n; place = p } → (n ≡ 0 → ⊥) → r ≡ refusedCall n p
+    pub ascii-refused : {n p : ℕ} {r : AsciiForm} → first (textRows P text) ≡ record { number = n; place = p } → (n ≡ 0 → ⊥) → r ≡ asciiFormed (refused n p) 0
         → AsciiForms P text before before r
     ascii-refused e f q =
-        answers-no _ text _ before q
+        answers-no asciiFormed _ text _ before q
         (encoding ∙ refused-before (textRows P text) _ (λ z. f (sym (ap (λ (a : Answer). a .number) e) ∙ z)) ∙ e) f
 
     module _ (all : Clear (textRows P text)) where
       judged-on : first (asciiRows P text (length before)) ≡ first (row 14 (anyOf (uncoded P) (labels (normalForm text))) 0 ∷ [])
       judged-on = encoding ∙ clear-before (textRows P text) _ all
 
-      pub ascii-uncoded : {r : Checked} → r ≡ refusedCall 14 0 → anyOf (uncoded P) (labels (normalForm text)) ≡ true → AsciiForms P text before before r
-      ascii-uncoded z q = answers-no _ text _ before z (judged-on ∙ hit 14 (anyOf (uncoded P) (labels (normalForm text))) 0 [] q) (λ z. omega arith)
+      pub ascii-uncoded : {r : AsciiForm} → r ≡ asciiFormed (refused 14 0) 0 → anyOf (uncoded P) (labels (normalForm text)) ≡ true → AsciiForms P text before before r
+      ascii-uncoded z q = answers-no asciiFormed _ text _ before z (judged-on ∙ hit 14 (anyOf (uncoded P) (labels (normalForm text))) 0 [] q) (λ z. omega arith)
 
       pub ascii-accepted : {k : Class} {n : ℕ} {after : List ℕ} → anyOf (uncoded P) (labels (normalForm text)) ≡ false
           → k ≡ classOf (labels (normalForm text)) → n ≡ length (asciiForm P (normalForm text)) → after ≡ written (asciiForm P (normalForm text)) before
           → AsciiForms P text before after (record { number = 0; place = 0; class = k; length = n })
       ascii-accepted q k s w =
-          answers-yes _ text _ before (judged-on ∙ clear (row 14 (anyOf (uncoded P) (labels (normalForm text))) 0 ∷ []) (q, tt)) k s w
+          answers-yes asciiFormed _ text _ before (judged-on ∙ clear (row 14 (anyOf (uncoded P) (labels (normalForm text))) 0 ∷ []) (q, tt)) k s w
+
+-- every row refuses, so with 0 none of them applies
+pub ascii-cleared : (P : Permits) (text : List ℕ) (room : ℕ) → first (asciiRows P text room) .number ≡ 0 → Clear (asciiRows P text room)
+unfolding refusing allOf asciiRows textRows frontRows nameRows labelRows
+ascii-cleared P text room e = accepted-clear (asciiRows P text room) refl e
+
+-- so the rules let the text pass, and the coder every label
+pub ascii-passed : (P : Permits) (text : List ℕ) (room : ℕ) → first (asciiRows P text room) .number ≡ 0
+    → Clear (textRows P text) × (anyOf (uncoded P) (labels (normalForm text)) ≡ false)
+unfolding asciiRows
+ascii-passed P text room e = let k = split-clear (textRows P text) _ (ascii-cleared P text room e .1) in (k .0, k .1 .0)

@@ -1,14 +1,15 @@
 -- The calls accept exactly what the grammar derives, from their statements alone: with room the check and the whole ASCII form say what the
 -- rules say of the text, since row 1 does not apply and row 14 never does (Coded), and the rules accept exactly what the grammar derives.
 -- Assumes nothing.
-use mathlib.Core.Path.{_≡_, sym, ap, _∙_}
+use mathlib.Core.Path.{_≡_, refl, sym, ap, _∙_}
 use mathlib.Core.List.{List}
 use mathlib.Core.Logic.{_↔_}
 use Prim.Native.Nat.{ℕ, _≤_}
 use lib.Dec.{ltb}
 use lib.ListN.{length}
 use borrow.Author.Tests.{le-ltb}
-use Rattle.lists.specs.Rows.{Row, Answer, first}
+use Rattle.lists.specs.Rows.{Row, first}
+use Rattle.lists.specs.declared.Answer.{Answer}
 use Rattle.lists.proofs.Tables.{passed-over}
 use Rattle.normal.specs.Normal.{normalForm}
 use Rattle.rules.specs.Labels.{labels}
@@ -20,19 +21,16 @@ use Rattle.rules.specs.declared.Class.{Class}
 use Rattle.rules.specs.declared.Verdict.{Verdict}
 use Rattle.rules.proofs.Exactly.{formed, accepted-derives}
 use Rattle.rules.proofs.Today.{today-laws}
-use Rattle.names.specs.Calls.{checked, checkRows, Answers, Checks, AsciiForms}
+use Rattle.names.specs.Calls.{Answers, checkRows, checkSaid, Checks, asciiSaid, AsciiForms}
+use Rattle.names.specs.declared.AsciiForm.{AsciiForm}
 use Rattle.names.specs.declared.Checked.{Checked}
 use Rattle.names.proofs.Coded.{ascii-first}
 
--- number, place and class of an answer
-abbrev pub said : Checked → Verdict
-said r = record { number = r .number; place = r .place; class = r .class }
-
 -- a call whose first row that applies is that of the rules says what they say
-answers-say : (P : Permits) {rows : List Row} {text xs before after : List ℕ} {r : Checked} → Answers rows text xs before after r
-    → first rows ≡ first (textRows P text) → said r ≡ rules P text
-unfolding checked rules verdict
-answers-say P {text = text} a e = ap said (a .result) ∙ ap (λ (x : Answer). verdict x (labels (normalForm text))) e
+answers-say : {R : Type 0} {make : Verdict → ℕ → R} (said : R → Verdict) → ((v : Verdict) (n : ℕ) → said (make v n) ≡ v) → (P : Permits) {rows : List Row}
+    {text xs before after : List ℕ} {r : R} → Answers make rows text xs before after r → first rows ≡ first (textRows P text) → said r ≡ rules P text
+unfolding rules
+answers-say said back P {text = text} a e = ap said (a .result) ∙ back _ _ ∙ ap (λ (x : Answer). verdict x (labels (normalForm text))) e
 
 -- what says what the rules say of a text is 0 with a class exactly where its normal form derives as a name of that class
 said-derives : (P : Permits) → Laws P → (text : List ℕ) (v : Verdict) → v ≡ rules P text → (k : Class)
@@ -52,30 +50,30 @@ said-derives P L text v e k = (λ p. accepted-derives P L text k .0 (whole p), �
 -- ---- the check
 
 module _ (P : Permits) {text before after : List ℕ} {r : Checked} (c : Checks P text before after r) (room : 256 ≤ length before) where
-  pub check-says : said r ≡ rules P text
+  pub check-says : checkSaid r ≡ rules P text
   unfolding checkRows
-  check-says = answers-say P c (passed-over 1 (ltb (length before) 256) 0 (textRows P text) (le-ltb (length before) 256 room))
+  check-says = answers-say checkSaid (λ v n. refl) P c (passed-over 1 (ltb (length before) 256) 0 (textRows P text) (le-ltb (length before) 256 room))
 
   pub check-derives : Laws P → (k : Class) → ((r .number ≡ 0) × (r .class ≡ k)) ↔ Derives P k (normalForm text)
-  check-derives L = said-derives P L text (said r) check-says
+  check-derives L = said-derives P L text (checkSaid r) check-says
 
 -- ---- the whole ASCII form
 
-module _ (P : Permits) (L : Laws P) {text before after : List ℕ} {r : Checked} (a : AsciiForms P text before after r) (room : 192 ≤ length before) where
-  pub ascii-says : said r ≡ rules P text
-  ascii-says = answers-say P a (ascii-first P (L .stretch) (L .middle-short) text (length before) room)
+module _ (P : Permits) (L : Laws P) {text before after : List ℕ} {r : AsciiForm} (a : AsciiForms P text before after r) (room : 192 ≤ length before) where
+  pub ascii-says : asciiSaid r ≡ rules P text
+  ascii-says = answers-say asciiSaid (λ v n. refl) P a (ascii-first P (L .stretch) (L .middle-short) text (length before) room)
 
   pub ascii-derives : (k : Class) → ((r .number ≡ 0) × (r .class ≡ k)) ↔ Derives P k (normalForm text)
-  ascii-derives = said-derives P L text (said r) ascii-says
+  ascii-derives = said-derives P L text (asciiSaid r) ascii-says
 
 -- ---- at the edition in force
 
-module _ {text before after : List ℕ} {r : Checked} where
-  pub check-today : Checks today text before after r → 256 ≤ length before → (k : Class)
+module _ {text before after : List ℕ} where
+  pub check-today : {r : Checked} → Checks today text before after r → 256 ≤ length before → (k : Class)
       → ((r .number ≡ 0) × (r .class ≡ k)) ↔ Derives today k (normalForm text)
   check-today c room = check-derives today c room today-laws
 
   -- 14 is no other way out: it never comes (Coded, never-14-today)
-  pub ascii-today : AsciiForms today text before after r → 192 ≤ length before → (k : Class)
+  pub ascii-today : {r : AsciiForm} → AsciiForms today text before after r → 192 ≤ length before → (k : Class)
       → ((r .number ≡ 0) × (r .class ≡ k)) ↔ Derives today k (normalForm text)
   ascii-today a room = ascii-derives today today-laws a room

@@ -4,59 +4,57 @@
 use mathlib.Core.Path.{_≡_, refl, sym, ap, _∙_}
 use mathlib.Core.Bool.{Bool, true, false, not, _&&_, _||_}
 use mathlib.Core.List.{List, [], _∷_, _++_}
+use mathlib.Core.Logic.{⊎-elim}
 use Prim.Native.Nat.{ℕ, _-_, _≤_}
 use native.Mathlib.Omega.{arith}
 use lib.Dec.{leb}
 use lib.ListN.{length, take, drop, length-append}
 use lib.Seq.{take-at, take-all}
-use borrow.Author.Tests.{ne-eqb, le-leb, not-true, not-false}
+use borrow.Author.Tests.{le-leb, not-true, not-false}
 use Rattle.lists.specs.Tests.{allOf, anyOf, same}
 use Rattle.lists.specs.Front.{written}
-use Rattle.lists.proofs.Laws.{both, or-right, clash, same-is}
 use Rattle.lists.specs.Rows.{Clear}
+use Rattle.lists.proofs.Laws.{both, or-right, same-is}
 use Rattle.normal.specs.Normal.{normalForm}
 use Rattle.rules.specs.Labels.{labels}
-use Rattle.rules.specs.Permits.{Permits, labelChar, middle}
-use Rattle.rules.specs.Rules.{isJapanese, long, jp, labelRows, nameRows, textRows}
-use Rattle.rules.specs.Editions.{todayWith}
-use Rattle.rules.proofs.Views.{and-false}
+use Rattle.rules.specs.Permits.{Permits, ShortMiddles, labelChar, middle}
+use Rattle.rules.specs.Rules.{isJapanese, long, jp, textRows, refused}
+use Rattle.rules.proofs.ByName.{Passed, clear-text}
 use Rattle.rules.proofs.Cuts.{labels-fit}
-use Rattle.rules.proofs.Derived.{left-size, middle-length}
-use Rattle.rules.proofs.Today.{lent-short}
-use Rattle.names.specs.Calls.{asciiForm, uncoded, AsciiForms}
-use Rattle.names.specs.Steps.{octet, writable, Writable, Tries, refusedCall, Judges}
-use Rattle.names.specs.declared.Checked.{Checked}
+use Rattle.rules.proofs.Derived.{left-size, middle-length, two-or-three}
+use Rattle.names.specs.Calls.{asciiForm, asciiFormed, uncoded, AsciiForms}
+use Rattle.names.specs.Steps.{octet, writable, Writable, PutsWhere, Judges}
+use Rattle.names.specs.declared.AsciiForm.{AsciiForm}
 use Rattle.names.specs.declared.ascii.Put.{Put}
-use Rattle.names.proofs.Answering.{passed, ascii-uncoded, ascii-accepted}
-use Rattle.names.proofs.OfLabel.{ascii-octets}
+use Rattle.names.specs.declared.judges.Ruled.{Ruled}
+use Rattle.names.proofs.Beyond.{ascii-octets}
+use Rattle.names.proofs.Answering.{accepted-as, ascii-uncoded, ascii-accepted}
 
 -- ---- a law of each label of an accepted name
 
 module _ (P : Permits) (f : List ℕ → Bool) (left : (l : List ℕ) → allOf (labelChar P) l ≡ true → long P l ≡ false → f l ≡ true)
     (mid : (l : List ℕ) → allOf (labelChar P) l ≡ true → middle P l ≡ true → f l ≡ true) (last : f jp ≡ true) where
-  jp-last : (l : List ℕ) → not (same l jp) ≡ false → f l ≡ true
-  jp-last l e = ap f (same-is l jp (not-false (same l jp) e)) ∙ last
+  jp-last : (l : List ℕ) → same l jp ≡ true → f l ≡ true
+  jp-last l e = ap f (same-is l jp e) ∙ last
 
-  by-number : (ls : List (List ℕ)) → Clear (nameRows P ls) → allOf (allOf (labelChar P)) ls ≡ true → (allOf f ls ≡ true) × (length ls ≤ 3)
-  unfolding nameRows labelRows allOf
-  by-number [] c a = (refl, omega arith)
-  by-number (l ∷ []) c a = clash refl (rw (and-false (P .three)) at (c .0))
-  by-number (l ∷ m ∷ []) c a =
+  of-passed : (ls : List (List ℕ)) → Passed P ls → allOf (allOf (labelChar P)) ls ≡ true → (allOf f ls ≡ true) × (length ls ≤ 3)
+  unfolding allOf
+  of-passed [] N a = (refl, omega arith)
+  of-passed (l ∷ []) N a = absurd (⊎-elim (λ e. omega arith) (λ e. omega arith) (two-or-three 1 (P .three) (N .count)))
+  of-passed (l ∷ m ∷ []) N a =
       let p = both (allOf (labelChar P) l) _ a in
-      (rw (left l (p .0) (c .1 .1 .1 .1 .0), jp-last m (c .1 .1 .1 .1 .1 .1 .0)), omega arith)
-  by-number (l ∷ m ∷ n ∷ []) c a =
+      (rw (left l (p .0) (N .left .few), jp-last m (N .last)), omega arith)
+  of-passed (l ∷ m ∷ n ∷ []) N a =
       let p = both (allOf (labelChar P) l) _ a in
-      let q = both (allOf (labelChar P) m) _ (p .1) in (
-        rw (left l (p .0) (c .1 .1 .1 .1 .0), mid m (q .0) (not-false (middle P m) (c .1 .1 .1 .1 .1 .1 .1 .0)), jp-last n (c .1 .1 .1 .1 .1 .1 .0)),
-        omega arith,
-      )
-  by-number (l ∷ m ∷ n ∷ o ∷ ls) c a =
-      let k = length (l ∷ m ∷ n ∷ o ∷ ls) in
-      clash refl (rw (ne-eqb k 2 (λ e. omega arith), ne-eqb k 3 (λ e. omega arith), and-false (P .three)) at (c .0))
+      let q = both (allOf (labelChar P) m) _ (p .1) in
+      (rw (left l (p .0) (N .left .few), mid m (q .0) (not-false (middle P m) (N .mid)), jp-last n (N .last)), omega arith)
+  of-passed (l ∷ m ∷ n ∷ o ∷ ls) N a =
+      absurd (⊎-elim (λ e. omega arith) (λ e. omega arith) (two-or-three (length (l ∷ m ∷ n ∷ o ∷ ls)) (P .three) (N .count)))
 
   pub each-label : (text : List ℕ) → Clear (textRows P text) → (allOf f (labels (normalForm text)) ≡ true) × (length (labels (normalForm text)) ≤ 3)
-  unfolding textRows
-  each-label text c = by-number (labels (normalForm text)) (c .1 .1 .1) (labels-fit P (normalForm text) (c .1 .1 .0))
+  each-label text c =
+      let k = clear-text P text c in
+      of-passed (labels (normalForm text)) (k .1) (labels-fit P (normalForm text) (k .0 .fit))
 
 -- ---- of at most 63 characters where it is not coded
 
@@ -72,43 +70,42 @@ jp-writable : (P : Permits) → writable P jp ≡ true
 unfolding writable jp allOf octet
 jp-writable P = or-right (isJapanese P (0x6A ∷ 0x70 ∷ [])) true refl
 
-pub accepted-writable : (table text : List ℕ) → Clear (textRows (todayWith table) text) → Writable (todayWith table) (normalForm text) 192
-accepted-writable table text c =
-    let P = todayWith table in
-    let w = each-label P (writable P) (λ l a k. label-writable P l a (λ q. rw q at (left-size P l k)))
-    (λ l a m. label-writable P l a (λ q. let h = middle-length P (lent-short table) l m in omega arith)) (jp-writable P) text c in
-    record { fit = w .0; few = omega (arith, w .1) }
+module _ (P : Permits) (short : ShortMiddles P) (text : List ℕ) where
+  pub accepted-writable : Clear (textRows P text) → Writable P (normalForm text) 192
+  accepted-writable c =
+      let w = each-label P (writable P) (λ l a k. label-writable P l a (λ q. rw q at (left-size P l k)))
+      (λ l a m. label-writable P l a (λ q. let h = middle-length P short l m in omega arith)) (jp-writable P) text c in
+      record { fit = w .0; few = omega (arith, w .1) }
 
-pub ready : (table text : List ℕ) {lent after : List ℕ} {j : Checked} → Judges (todayWith table) text lent after j → j .number ≡ 0
-    → Writable (todayWith table) (take (j .length - 0) (drop 0 after)) 192
-ready table text e z = let p = passed (todayWith table) text e z in rw (p .form) (accepted-writable table text (p .clear))
+  pub ready : {lent after : List ℕ} {j : Ruled} → Judges P text lent after j → j .number ≡ 0 → Writable P (take (j .length - 0) (drop 0 after)) 192
+  ready e z = let p = accepted-as P text e z in rw (p .form) (accepted-writable (p .clear))
 
 -- ---- what is put is the form
 
-module _ (P : Permits) (text : List ℕ) {lent form : List ℕ} {j : Checked} (e : Judges P text lent form j) (z : j .number ≡ 0) {zeros last : List ℕ} {r : Put}
-    (t : Tries (not (anyOf (uncoded P) (labels (take (j .length - 0) (drop 0 form))))) (asciiForm P (take (j .length - 0) (drop 0 form))) zeros last 0 r) where
-  tries : Tries (not (anyOf (uncoded P) (labels (normalForm text)))) (asciiForm P (normalForm text)) zeros last 0 r
-  tries = rw (passed P text e z .form) at t
+module _ (P : Permits) (text : List ℕ) {lent form : List ℕ} {j : Ruled} (e : Judges P text lent form j) (z : j .number ≡ 0) {zeros last : List ℕ} {r : Put}
+    (t : PutsWhere (not (anyOf (uncoded P) (labels (take (j .length - 0) (drop 0 form))))) (asciiForm P (take (j .length - 0) (drop 0 form))) zeros last 0 r) where
+  put-form : PutsWhere (not (anyOf (uncoded P) (labels (normalForm text)))) (asciiForm P (normalForm text)) zeros last 0 r
+  put-form = rw (accepted-as P text e z .form) at t
 
   module _ (y : r .coded ≡ true) where
     place-is : r .at ≡ length (asciiForm P (normalForm text))
-    place-is = omega (arith, tries .put y .place)
+    place-is = omega (arith, put-form .put y .place)
 
     pub put-size : r .at ≤ length last
-    put-size = omega (arith, place-is, ap length (tries .put y .buffer), length-append (asciiForm P (normalForm text)) (drop (r .at) zeros))
+    put-size = omega (arith, place-is, ap length (put-form .put y .buffer), length-append (asciiForm P (normalForm text)) (drop (r .at) zeros))
 
     piece : take (r .at - 0) (drop 0 last) ≡ asciiForm P (normalForm text)
     piece =
         let k : r .at - 0 ≡ length (asciiForm P (normalForm text)) = omega (arith, place-is) in
-        rw (k, tries .put y .buffer) (take-at (asciiForm P (normalForm text)) _ (length (asciiForm P (normalForm text))) refl)
+        rw (k, put-form .put y .buffer) (take-at (asciiForm P (normalForm text)) _ (length (asciiForm P (normalForm text))) refl)
 
     pub piece-length : length (take (r .at - 0) (drop 0 last)) ≡ r .at
     piece-length = ap length piece ∙ sym place-is
 
   module _ (before : List ℕ) (h : 192 ≤ length before) where
-    pub stopped : {a : Checked} → a ≡ refusedCall 14 0 → r .coded ≡ false → AsciiForms P text before before a
+    pub stopped : {a : AsciiForm} → a ≡ asciiFormed (refused 14 0) 0 → r .coded ≡ false → AsciiForms P text before before a
     stopped q n =
-        ascii-uncoded P text before h (passed P text e z .clear) q (not-false (anyOf (uncoded P) (labels (normalForm text))) (sym (tries .coded) ∙ n))
+        ascii-uncoded P text before h (accepted-as P text e z .clear) q (not-false (anyOf (uncoded P) (labels (normalForm text))) (sym (put-form .coded) ∙ n))
 
     pub finished : {after : List ℕ} {n : ℕ} → r .coded ≡ true → n ≡ length (take (r .at - 0) (drop 0 last))
         → after ≡ take n (take (r .at - 0) (drop 0 last)) ++ drop n before
@@ -118,6 +115,6 @@ module _ (P : Permits) (text : List ℕ) {lent form : List ℕ} {j : Checked} (e
         let k : n ≡ length (asciiForm P (normalForm text)) = m ∙ ap length (piece y) in
         let all : take (length (asciiForm P (normalForm text))) (asciiForm P (normalForm text)) ≡ asciiForm P (normalForm text) =
         take-all (length (asciiForm P (normalForm text))) (asciiForm P (normalForm text)) (omega arith) in
-        let p = passed P text e z in
-        ascii-accepted P text before h (p .clear) (not-true (anyOf (uncoded P) (labels (normalForm text))) (sym (tries .coded) ∙ y)) (p .class) (place-is y)
+        let p = accepted-as P text e z in
+        ascii-accepted P text before h (p .clear) (not-true (anyOf (uncoded P) (labels (normalForm text))) (sym (put-form .coded) ∙ y)) (p .class) (place-is y)
         (w ∙ rw (piece y, k, all))

@@ -1,45 +1,36 @@
 -- Whether a text may yet become a name: each return of the code is a case of the definition.
 -- Assumes nothing.
 use mathlib.Core.Path.{_≡_, refl, sym, ap, _∙_}
-use mathlib.Core.Bool.{Bool, true, false, not, _||_}
+use mathlib.Core.Bool.{Bool, true, false, not, _||_, or-false}
 use mathlib.Core.List.{List, [], _∷_, _++_, append-nil}
+use mathlib.Core.Logic.{⊎-elim}
 use Prim.Native.Nat.{ℕ, suc, _+_, _-_, _≤_, _<_}
 use native.Mathlib.Omega.{arith}
 use lib.ListN.{length, take, drop, set, length-append}
 use lib.Seq.{take-all, take-suc-set}
 use borrow.Author.Tests.{not-true, not-false}
-use Rattle.lists.specs.Tests.{within, allOf, anyOf, firstOf, same}
+use Rattle.lists.specs.Tests.{within, anyOf}
 use Rattle.lists.specs.Front.{written}
-use Rattle.lists.specs.Rows.{first}
+use Rattle.lists.specs.Rows.{first, Clear}
+use Rattle.lists.specs.declared.Answer.{Answer}
 use Rattle.lists.proofs.Fronts.{front}
-use Rattle.lists.proofs.Laws.{both, or-left, or-right, either, refuted, all-append}
-use Rattle.lists.proofs.Scan.{found}
-use Rattle.characters.specs.Characters.{hyphen, asciiSet, hiragana, japaneseBy, japaneseWith}
+use Rattle.lists.proofs.Laws.{both, or-left, or-right, refuted, clash, lt-or-le}
+use Rattle.lists.proofs.Tables.{clear}
+use Rattle.characters.specs.Characters.{hyphen, hiragana, japaneseBy, japaneseWith}
 use Rattle.normal.specs.Normal.{replacedFrom, compose, normalPlaced, normalForm}
-use Rattle.normal.specs.Calls.{Normalises}
-use Rattle.normal.specs.declared.Normal.{Normal}
 use Rattle.rules.specs.Labels.{labels}
-use Rattle.rules.specs.Permits.{Permits, labelChar, middle}
+use Rattle.rules.specs.Permits.{Permits, ShortMiddles, jaChar, middle}
 use Rattle.rules.specs.Prefectures.{prefectures}
-use Rattle.rules.specs.Rules.{unfit, middleDot, isJapanese, beginsWithHyphen, endsWithHyphen, hyphenEdge, short, long, bareDot, labelRows, jp}
+use Rattle.rules.specs.Rules.{unfit, middleDot, isJapanese, beginsWithHyphen, endsWithHyphen, hyphenEdge, short, long, bareDot, labelRows, jp, frontRows}
 use Rattle.rules.specs.Editions.{todayWith}
 use Rattle.rules.specs.Hopeful.{begins, leftmost, tries, grows, hopeful}
-use Rattle.rules.proofs.Cuts.{labelled, labels-fit}
-use Rattle.rules.proofs.Views.{or-false}
-use Rattle.rules.proofs.Hopeless.{leftmost-length, begins-length, past-hope}
-use Rattle.rules.proofs.Today.{lent-short}
+use Rattle.rules.proofs.ByName.{clear-front, front-clear, front-cleared}
+use Rattle.rules.proofs.Cuts.{labelled}
+use Rattle.rules.proofs.Hopeless.{leftmost-length, past-hope}
+use Rattle.names.specs.Steps.{Fronts}
+use Rattle.names.specs.declared.judges.Fronted.{Fronted}
 use Rattle.names.proofs.OfName.{some-label}
-use Rattle.names.proofs.Judging.{Way, no-text, over, whole, way, formed, form-is, first-is, none-unfit}
-
--- ---- beginnings
-
-module _ (l w : List ℕ) where
-  pub begins-none : length w < length l → false ≡ begins l w
-  begins-none h = sym (refuted (begins l w) (λ e. omega (arith, begins-length l w e)))
-
-  pub begins-part : {b : Bool} → b ≡ same l (take (length l - 0) (drop 0 w)) → b ≡ begins l w
-  unfolding begins
-  begins-part e = let n : length l - 0 ≡ length l = omega arith in e ∙ rw n
+use Rattle.names.proofs.Judging.{front-form}
 
 -- ---- one character more, in an array of 64
 
@@ -57,16 +48,6 @@ module _ (l before out : List ℕ) (c : ℕ) (e : out ≡ written (take (length 
       rw (k, take-suc-set out (length l) c (omega arith)) (ap (λ (x : List ℕ). x ++ c ∷ []) copied)
 
 -- ---- one label
-
--- a hiragana or a character of the ASCII set may stand after it
-module _ (table l : List ℕ) (c : ℕ) (e : hiragana c || asciiSet c ≡ true) where
-  char-fits : labelChar (todayWith table) c ≡ true
-  unfolding labelChar todayWith japaneseWith japaneseBy
-  char-fits = either (hiragana c) (asciiSet c) e (λ p. or-left _ (asciiSet c) (or-left (hiragana c) _ p)) (λ p. or-right (japaneseWith table c) _ p)
-
-  pub more-fits : allOf (labelChar (todayWith table)) l ≡ true → allOf (labelChar (todayWith table)) (l ++ c ∷ []) ≡ true
-  unfolding allOf
-  more-fits w = all-append (labelChar (todayWith table)) l (c ∷ []) ∙ rw (w, char-fits)
 
 module _ (P : Permits) where
   module _ (l : List ℕ) {b : Bool} (e : b ≡ leftmost P l) where
@@ -130,37 +111,30 @@ pub begins-middle : (table m : List ℕ) {p : Bool} → p ≡ anyOf (begins m) p
 unfolding todayWith
 begins-middle table m e = e
 
--- the only label is fit
-pub only-fit : (P : Permits) (t : List ℕ) → labels t ≡ t ∷ [] → anyOf (unfit P) t ≡ false → allOf (labelChar P) t ≡ true
-unfolding allOf
-only-fit P t e u = both (allOf (labelChar P) t) true (ap (allOf (allOf (labelChar P))) (sym e) ∙ labels-fit P t u) .0
-
 -- ---- a text
 
 pub nothing-yet : (table text : List ℕ) → length text ≡ 0 → true ≡ hopeful (todayWith table) text
-unfolding hopeful normalForm normalPlaced replacedFrom compose labels grows tries anyOf leftmost first labelRows hyphenEdge beginsWithHyphen endsWithHyphen short long bareDot isJapanese middleDot hyphen todayWith japaneseWith japaneseBy hiragana within
+unfolding hopeful normalForm normalPlaced replacedFrom compose labels grows tries anyOf leftmost first labelRows hyphenEdge beginsWithHyphen endsWithHyphen short long bareDot isJapanese middleDot hyphen todayWith jaChar japaneseWith japaneseBy hiragana within
 nothing-yet table [] h = refl
 nothing-yet table (x ∷ xs) h = absurd (omega arith)
 
-module _ (table : List ℕ) {text before after : List ℕ} {r : Normal} (room : 256 ≤ length before) (n : Normalises text before after r) (some : length text ≡ 0 → ⊥) where
-  pub no-hope : (r .number ≡ 0 → ⊥) → false ≡ hopeful (todayWith table) text
-  no-hope h = go (way room n)
-    where
-      go : Way text before after r → false ≡ hopeful (todayWith table) text
-      go (no-text e p q) = absurd (some e)
-      go (over s g p q) = sym (past-hope (todayWith table) (lent-short table) text g)
-      go (whole s g p q) = absurd (h (ap (λ (x : Normal). x .number) p))
+module _ (P : Permits) (shorts : ShortMiddles P) {text before after : List ℕ} {r : Fronted} (F : Fronts P text before after r) where
+  -- what 2 to 4 refuse, but for a text with nothing in it yet, has no hope
+  no-front : 1 ≤ length text → hopeful P text ≡ true → Clear (frontRows P text)
+  unfolding hopeful
+  no-front some e =
+      let k = both (not (anyOf (unfit P) (normalForm text))) _ e in
+      let few : length text ≤ 256 =
+      ⊎-elim (λ g. clash e (unfold hopeful in past-hope P shorts text g)) (λ g. g) (lt-or-le 256 (length text)) in
+      front-clear P text (record { some = some; few = few; fit = not-true (anyOf (unfit P) (normalForm text)) (k .0) })
 
-  module _ (z : r .number ≡ 0) {k : ℕ} (e : k ≡ firstOf (unfit (todayWith table)) (take (r .length - 0) (drop 0 after))) where
-    pub unfit-no-hope : k < r .length → false ≡ hopeful (todayWith table) text
-    unfolding hopeful
-    unfit-no-hope h =
-        let f = formed room n z in
-        let bad = found (unfit (todayWith table)) (normalForm text) (omega (arith, first-is (todayWith table) room n z e, f .2)) in
-        rw bad
+  pub no-hope : (length text ≡ 0 → ⊥) → (r .number ≡ 0 → ⊥) → false ≡ hopeful P text
+  no-hope some h =
+      sym (refuted (hopeful P text) (λ e.
+      h (ap (λ (x : Fronted). x .number) (F .result) ∙ ap (λ (a : Answer). a .number) (clear (frontRows P text) (no-front (omega arith) e)))))
 
-    pub fit-hope : {b : Bool} → r .length ≤ k → b ≡ grows (todayWith table) (labels (take (r .length - 0) (drop 0 after)))
-        → b ≡ hopeful (todayWith table) text
-    unfolding hopeful
-    fit-hope h q =
-        q ∙ rw (form-is room n z, none-unfit (todayWith table) room n z e h)
+  pub front-hope : {b : Bool} → r .number ≡ 0 → b ≡ grows P (labels (take (r .length - 0) (drop 0 after))) → b ≡ hopeful P text
+  unfolding hopeful
+  front-hope z q =
+      let fit = clear-front P text (front-cleared P text (sym (ap (λ (x : Fronted). x .number) (F .result)) ∙ z)) .fit in
+      q ∙ rw (front-form P F z, fit)

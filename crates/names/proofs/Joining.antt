@@ -1,5 +1,5 @@
 -- The whole ASCII form, piece by piece: each turn puts the ASCII form of one label and a period, and what is put with what is left
--- to put is the whole. An accepted name has two or three labels of at most 63 octets each, so that 192 are enough.
+-- to put is the whole.
 -- Assumes nothing.
 use mathlib.Core.Path.{_≡_, refl, sym, ap, _∙_}
 use mathlib.Core.Bool.{Bool, true, false, not, _&&_}
@@ -12,23 +12,22 @@ use lib.Dec.{eqb, leb, ltb}
 use lib.ListN.{length, take, drop, getD, set, length-drop, drop-of-length-le, take-append-drop}
 use lib.Seq.{take-all, drop-drop, sets-eq}
 use borrow.Author.Tests.{eq-eqb, ne-eqb, le-ltb, leb-true, ltb-true, eqb-true, not-true, not-false}
-use Rattle.lists.specs.Tests.{pick, allOf, anyOf, firstOf}
+use Rattle.lists.specs.Tests.{pick, allOf, anyOf, indexOf}
 use Rattle.lists.specs.Front.{written, Puts}
 use Rattle.lists.proofs.Fronts.{untouched}
 use Rattle.lists.proofs.Laws.{both, clash, lt-or-le}
 use Rattle.lists.proofs.Pieces.{puts-length, then, put-one}
 use Rattle.punycode.specs.Punycode.{ace, encodable}
 use Rattle.punycode.specs.Calls.{coderNumber, coderWrites, Encodes}
-use Rattle.punycode.specs.declared.Coded.{Coded}
+use Rattle.punycode.specs.declared.Encoded.{Encoded}
 use Rattle.rules.specs.Labels.{period, labels, join}
-use Rattle.rules.specs.Permits.{Permits}
+use Rattle.rules.specs.Permits.{Permits, InStretch}
 use Rattle.rules.specs.Rules.{isJapanese, jp}
-use Rattle.rules.specs.Editions.{todayWith}
 use Rattle.rules.proofs.Cuts.{Labelled, none, cut, held, labelled, ended, last-from, first-from}
 use Rattle.names.specs.Calls.{asciiLabel, asciiForm, uncoded}
-use Rattle.names.specs.Steps.{octet, wide, writable, Writable, Tries, TriesOne, dotJp}
+use Rattle.names.specs.Steps.{octet, beyond, writable, Writable, PutsWhere, PutsOrKeeps, dotJp}
 use Rattle.names.specs.declared.ascii.Put.{Put}
-use Rattle.names.proofs.OfLabel.{wide-is}
+use Rattle.names.proofs.Beyond.{beyond-is}
 
 -- ".jp", octet by octet
 pub put-jp : (out : List ℕ) (n : ℕ) → n + 3 ≤ length out → Puts dotJp out (set (set (set out n 0x2E) (n + 1) 0x6A) (n + 2) 0x70) n (n + 3)
@@ -59,13 +58,13 @@ coder-short l e = go (encodable l) (leb (length (ace l)) 63) refl e
     go false t p e = absurd (omega arith)
 
 -- the coder is lent the buffer from `at` on, and leaves `last` there
-module _ (l out last : List ℕ) (at : ℕ) (h : at + 63 ≤ length out) {k : Coded} (e : Encodes l (take (length out - at) (drop at out)) last k) where
+module _ (l out last : List ℕ) (at : ℕ) (h : at + 63 ≤ length out) {k : Encoded} (e : Encodes l (take (length out - at) (drop at out)) last k) where
   part : take (length out - at) (drop at out) ≡ drop at out
   part = take-all (length out - at) (drop at out) (omega (arith, length-drop at out))
 
   number-is : k .number ≡ coderNumber l 63
   number-is =
-      ap (λ (x : Coded). x .number) (e .answer)
+      ap (λ (x : Encoded). x .number) (e .answer)
       ∙ coder-room l (length (take (length out - at) (drop at out))) (omega (arith, ap length part, length-drop at out))
 
   -- what the whole buffer then holds; the coder's part reaches to its end
@@ -75,29 +74,29 @@ module _ (l out last : List ℕ) (at : ℕ) (h : at + 63 ≤ length out) {k : Co
   none-after : drop (length out - at) (drop at out) ≡ []
   none-after = drop-of-length-le (drop at out) {i = length out - at} (omega (arith, length-drop at out))
 
-  pub coded-no : (k .number ≡ 0 → ⊥) → TriesOne (eqb (coderNumber l 63) 0) (ace l) out left-there at (record { coded = false; at = at })
+  pub coded-no : (k .number ≡ 0 → ⊥) → PutsOrKeeps (eqb (coderNumber l 63) 0) (ace l) out left-there at (record { coded = false; at = at })
   unfolding coderWrites
   coded-no n =
       let none-written : coderWrites l (length (take (length out - at) (drop at out))) ≡ [] =
-      rw (ne-eqb _ 0 (λ z. n (ap (λ (x : Coded). x .number) (e .answer) ∙ z))) in
+      rw (ne-eqb _ 0 (λ z. n (ap (λ (x : Encoded). x .number) (e .answer) ∙ z))) in
       let left : last ≡ drop at out = e .buffer ∙ rw none-written (untouched _) ∙ part in
       record {
-        tries = record { coded = sym (ne-eqb (coderNumber l 63) 0 (λ z. n (number-is ∙ z))); put = λ p. clash p refl };
+        puts = record { coded = sym (ne-eqb (coderNumber l 63) 0 (λ z. n (number-is ∙ z))); put = λ p. clash p refl };
         kept = λ p. rw (none-after, append-nil last, left) (take-append-drop at out);
       }
 
   module _ (z : k .number ≡ 0) where
     writes-is : coderWrites l (length (take (length out - at) (drop at out))) ≡ ace l
     unfolding coderWrites
-    writes-is = rw (eq-eqb _ 0 (sym (ap (λ (x : Coded). x .number) (e .answer)) ∙ z))
+    writes-is = rw (eq-eqb _ 0 (sym (ap (λ (x : Encoded). x .number) (e .answer)) ∙ z))
 
     length-is : k .length ≡ length (ace l)
-    length-is = ap (λ (x : Coded). x .length) (e .answer) ∙ ap length writes-is
+    length-is = ap (λ (x : Encoded). x .length) (e .answer) ∙ ap length writes-is
 
     pub coded-fits : at + k .length ≤ length out
     coded-fits = omega (arith, length-is, coder-short l (sym number-is ∙ z))
 
-    pub coded-yes : Tries (eqb (coderNumber l 63) 0) (ace l) out left-there at (record { coded = true; at = at + k .length })
+    pub coded-yes : PutsWhere (eqb (coderNumber l 63) 0) (ace l) out left-there at (record { coded = true; at = at + k .length })
     unfolding written
     coded-yes =
         let left : last ≡ ace l ++ drop (at + length (ace l)) out = e .buffer ∙ rw (writes-is, part, drop-drop (length (ace l)) at out) in
@@ -114,38 +113,39 @@ module _ (l out last : List ℕ) (at : ℕ) (h : at + 63 ≤ length out) {k : Co
 
 -- ---- a label
 
--- where the coder takes it, there is no refusal to speak of
-pub took : {takes : Bool} {piece before after : List ℕ} {at : ℕ} {r : Put} → r .coded ≡ true → Tries takes piece before after at r
-    → TriesOne takes piece before after at r
-took y t = record { tries = t; kept = λ n. clash y n }
+-- where the coder taken it, there is no refusal to speak of
+pub took : {taken : Bool} {piece before after : List ℕ} {at : ℕ} {r : Put} → r .coded ≡ true → PutsWhere taken piece before after at r
+    → PutsOrKeeps taken piece before after at r
+took y t = record { puts = t; kept = λ n. clash y n }
 
 not-not : (b : Bool) → b ≡ not (not b)
 not-not true = refl
 not-not false = refl
 
 module _ (P : Permits) (l : List ℕ) {j : Bool} (e : j ≡ isJapanese P l) where
-  pub label-coded : {before after : List ℕ} {at : ℕ} {r : Put} → j ≡ true → TriesOne (eqb (coderNumber l 63) 0) (ace l) before after at r
-      → TriesOne (not (uncoded P l)) (asciiLabel P l) before after at r
+  pub label-coded : {before after : List ℕ} {at : ℕ} {r : Put} → j ≡ true → PutsOrKeeps (eqb (coderNumber l 63) 0) (ace l) before after at r
+      → PutsOrKeeps (not (uncoded P l)) (asciiLabel P l) before after at r
   unfolding uncoded asciiLabel
   label-coded p t = record {
-    tries = record { coded = t .tries .coded ∙ rw (← e, p) (not-not (eqb (coderNumber l 63) 0)); put = λ q. rw (← e, p) (t .tries .put q) };
+    puts = record { coded = t .puts .coded ∙ rw (← e, p) (not-not (eqb (coderNumber l 63) 0)); put = λ q. rw (← e, p) (t .puts .put q) };
     kept = t .kept;
   }
 
   module _ (p : j ≡ false) where
-    pub label-plain : {before after : List ℕ} {at r : ℕ} → Puts l before after at r
-        → Tries (not (uncoded P l)) (asciiLabel P l) before after at (record { coded = true; at = r })
+    pub label-ascii : {before after : List ℕ} {at r : ℕ} → Puts l before after at r
+        → PutsWhere (not (uncoded P l)) (asciiLabel P l) before after at (record { coded = true; at = r })
     unfolding uncoded asciiLabel
-    label-plain t = record { coded = rw (← e, p); put = λ q. rw (← e, p) t }
+    label-ascii t = record { coded = rw (← e, p); put = λ q. rw (← e, p) t }
 
-    pub plain-fits : writable P l ≡ true → (allOf octet l ≡ true) × (length l ≤ 63)
+    pub ascii-fits : writable P l ≡ true → (allOf octet l ≡ true) × (length l ≤ 63)
     unfolding writable
-    plain-fits w =
+    ascii-fits w =
         let b = both (leb (length l) 63) (allOf octet l) (rw (← e, p) at w) in
         (b .1, leb-true (length l) 63 (b .0))
 
-pub wide-writable : (table l : List ℕ) {b : Bool} → b ≡ anyOf wide l → writable (todayWith table) l ≡ true → b ≡ isJapanese (todayWith table) l
-wide-writable table l e w = wide-is table l e (λ p. plain-fits (todayWith table) l refl p w .0)
+-- so such a label is Japanese where it holds more than octets
+pub beyond-writable : (P : Permits) → InStretch P → (l : List ℕ) {b : Bool} → b ≡ anyOf beyond l → writable P l ≡ true → b ≡ isJapanese P l
+beyond-writable P stretch l e w = beyond-is P stretch l e (λ p. ascii-fits P l refl p w .0)
 
 -- at most 63 octets
 pub label-size : (P : Permits) (l : List ℕ) → writable P l ≡ true → uncoded P l ≡ false → length (asciiLabel P l) ≤ 63
@@ -154,7 +154,7 @@ label-size P l w u = go (isJapanese P l) refl u
   where
     go : (j : Bool) → j ≡ isJapanese P l → j && not (eqb (coderNumber l 63) 0) ≡ false → length (pick j (ace l) l) ≤ 63
     go true e u = coder-short l (eqb-true (coderNumber l 63) 0 (not-false (eqb (coderNumber l 63) 0) u))
-    go false e u = plain-fits P l e refl w .1
+    go false e u = ascii-fits P l e refl w .1
 
 -- ---- a turn of the loop
 
@@ -186,7 +186,7 @@ goes P form out w = record {
   room = omega (arith, w .few);
 }
 
-module _ (P : Permits) {form out₀ out : List ℕ} {from at : ℕ} (g : Going P form out₀ out from at) (e : ℕ) (s : e ≡ from + firstOf period (drop from form)) where
+module _ (P : Permits) {form out₀ out : List ℕ} {from at : ℕ} (g : Going P form out₀ out from at) (e : ℕ) (s : e ≡ from + indexOf period (drop from form)) where
   -- the label that is put
   abbrev here : List ℕ
   here = take (e - from) (drop from form)
@@ -217,8 +217,8 @@ module _ (P : Permits) {form out₀ out : List ℕ} {from at : ℕ} (g : Going P
   pub here-room : at + 63 ≤ length out
   here-room = by-end (λ rest q. omega (arith, out-length, g .room, ap length q))
 
-  module _ {out₁ : List ℕ} {r : Put} (t : Tries (not (uncoded P here)) (asciiLabel P here) out out₁ at r) where
-    pub turn-refused : {after : List ℕ} → r .coded ≡ false → Tries (not (anyOf (uncoded P) (labels form))) (asciiForm P form) out₀ after 0 r
+  module _ {out₁ : List ℕ} {r : Put} (t : PutsWhere (not (uncoded P here)) (asciiLabel P here) out out₁ at r) where
+    pub turn-refused : {after : List ℕ} → r .coded ≡ false → PutsWhere (not (anyOf (uncoded P) (labels form))) (asciiForm P form) out₀ after 0 r
     unfolding anyOf
     turn-refused p =
         let u : uncoded P here ≡ true = not-false (uncoded P here) (sym (t .coded) ∙ p) in
@@ -232,7 +232,7 @@ module _ (P : Permits) {form out₀ out : List ℕ} {from at : ℕ} (g : Going P
       puts : Puts (g .done ++ asciiLabel P here) out₀ out₁ 0 (r .at)
       puts = then (g .put) (t .put p)
 
-      pub turn-last : length form ≤ e → Tries (not (anyOf (uncoded P) (labels form))) (asciiForm P form) out₀ out₁ 0 r
+      pub turn-last : length form ≤ e → PutsWhere (not (anyOf (uncoded P) (labels form))) (asciiForm P form) out₀ out₁ 0 r
       unfolding anyOf join
       turn-last k =
           let q = last-here k in

@@ -1,12 +1,10 @@
-pub mod OfLabel
-pub mod Middle
 pub mod OfName
-pub mod Reading
+pub mod Beyond
 pub mod Judging
 pub mod Answering
 pub mod Joining
 pub mod Enough
-pub mod Usual
+pub mod UsualName
 pub mod Unique
 pub mod Coded
 pub mod Demands

@@ -1,7 +1,7 @@
 -- A name by its labels: where the code finds two or three, and which of them is empty.
 -- Assumes nothing.
 use mathlib.Core.Path.{_≡_, refl, sym, ap, _∙_}
-use mathlib.Core.Bool.{Bool, true, false, _&&_, _||_}
+use mathlib.Core.Bool.{Bool, true, false, _&&_, _||_, and-false}
 use mathlib.Core.List.{List, [], _∷_}
 use Prim.Native.Nat.{ℕ, _+_, _-_, _≤_, _<_}
 use native.Mathlib.Omega.{arith}
@@ -9,18 +9,15 @@ use lib.Dec.{eqb}
 use lib.ListN.{length, take, drop, length-drop}
 use lib.Seq.{take-all}
 use borrow.Author.Tests.{eq-eqb, ne-eqb}
-use Rattle.lists.specs.Tests.{allOf, anyOf, firstOf, same}
-use Rattle.lists.proofs.Laws.{both}
+use Rattle.lists.specs.Tests.{anyOf, indexOf, same}
 use Rattle.rules.specs.Labels.{period, labels}
-use Rattle.rules.specs.Permits.{Permits, labelChar, middle, isEmpty}
+use Rattle.rules.specs.Permits.{Permits, middle, isEmpty}
 use Rattle.rules.specs.Prefectures.{prefectures}
-use Rattle.rules.specs.Rules.{unfit}
+use Rattle.rules.specs.Rules.{byLabels, refused}
 use Rattle.rules.specs.Editions.{todayWith}
 use Rattle.rules.specs.declared.Verdict.{Verdict}
-use Rattle.rules.proofs.Views.{and-false}
-use Rattle.rules.proofs.Cuts.{Labelled, none, cut, held, labelled, labels-fit, last-from, first-from}
+use Rattle.rules.proofs.Cuts.{Labelled, none, cut, held, labelled, last-from, first-from}
 use Rattle.rules.proofs.Steps.{empty-is, name-5, name-6}
-use Rattle.names.specs.Steps.{byLabels, refusal}
 
 -- ---- empty labels
 
@@ -39,34 +36,42 @@ unfolding anyOf
 three-filled l m n f g h = rw (filled l f, filled m g, filled n h)
 
 module _ (P : Permits) (l m : List ℕ) where
-  pub two-0 : length l ≡ 0 → refusal 6 0 ≡ byLabels P (l ∷ m ∷ [])
-  unfolding anyOf firstOf
+  pub two-0 : length l ≡ 0 → refused 6 0 ≡ byLabels P (l ∷ m ∷ [])
+  unfolding anyOf indexOf
   two-0 e = sym (name-6 P (l ∷ m ∷ []) refl (rw (empty l e)) ∙ rw (empty l e))
 
-  pub two-1 : (length l ≡ 0 → ⊥) → length m ≡ 0 → refusal 6 1 ≡ byLabels P (l ∷ m ∷ [])
-  unfolding anyOf firstOf
+  pub two-1 : (length l ≡ 0 → ⊥) → length m ≡ 0 → refused 6 1 ≡ byLabels P (l ∷ m ∷ [])
+  unfolding anyOf indexOf
   two-1 f e = sym (name-6 P (l ∷ m ∷ []) refl (rw (filled l f, empty m e)) ∙ rw (filled l f, empty m e))
 
--- three labels may be
-pub may-three : (table : List ℕ) → eqb 3 2 || (todayWith table .three && eqb 3 3) ≡ true
+-- three labels may be, by the edition
+module _ (P : Permits) (may : P .three ≡ true) where
+  may-three : eqb 3 2 || (P .three && eqb 3 3) ≡ true
+  may-three = rw may
+
+  module _ (l m n : List ℕ) where
+    pub three-0 : length l ≡ 0 → refused 6 0 ≡ byLabels P (l ∷ m ∷ n ∷ [])
+    unfolding anyOf indexOf
+    three-0 e = sym (name-6 P (l ∷ m ∷ n ∷ []) may-three (rw (empty l e)) ∙ rw (empty l e))
+
+    module _ (f : length l ≡ 0 → ⊥) where
+      pub three-1 : length m ≡ 0 → refused 6 1 ≡ byLabels P (l ∷ m ∷ n ∷ [])
+      unfolding anyOf indexOf
+      three-1 e = sym (name-6 P (l ∷ m ∷ n ∷ []) may-three (rw (filled l f, empty m e)) ∙ rw (filled l f, empty m e))
+
+      pub three-2 : (length m ≡ 0 → ⊥) → length n ≡ 0 → refused 6 2 ≡ byLabels P (l ∷ m ∷ n ∷ [])
+      unfolding anyOf indexOf
+      three-2 g e =
+          sym (name-6 P (l ∷ m ∷ n ∷ []) may-three (rw (filled l f, filled m g, empty n e)) ∙ rw (filled l f, filled m g, empty n e))
+
+-- ---- what the code has of the edition in force
+
+pub today-three : (table : List ℕ) → todayWith table .three ≡ true
 unfolding todayWith
-may-three table = refl
+today-three table = refl
 
-module _ (table l m n : List ℕ) where
-  pub three-0 : length l ≡ 0 → refusal 6 0 ≡ byLabels (todayWith table) (l ∷ m ∷ n ∷ [])
-  unfolding anyOf firstOf
-  three-0 e = sym (name-6 (todayWith table) (l ∷ m ∷ n ∷ []) (may-three table) (rw (empty l e)) ∙ rw (empty l e))
-
-  module _ (f : length l ≡ 0 → ⊥) where
-    pub three-1 : length m ≡ 0 → refusal 6 1 ≡ byLabels (todayWith table) (l ∷ m ∷ n ∷ [])
-    unfolding anyOf firstOf
-    three-1 e = sym (name-6 (todayWith table) (l ∷ m ∷ n ∷ []) (may-three table) (rw (filled l f, empty m e)) ∙ rw (filled l f, empty m e))
-
-    pub three-2 : (length m ≡ 0 → ⊥) → length n ≡ 0 → refusal 6 2 ≡ byLabels (todayWith table) (l ∷ m ∷ n ∷ [])
-    unfolding anyOf firstOf
-    three-2 g e =
-        sym (name-6 (todayWith table) (l ∷ m ∷ n ∷ []) (may-three table) (rw (filled l f, filled m g, empty n e))
-        ∙ rw (filled l f, filled m g, empty n e))
+pub today-may : (table : List ℕ) → eqb 3 2 || (todayWith table .three && eqb 3 3) ≡ true
+today-may table = may-three (todayWith table) (today-three table)
 
 pub middle-is : (table m : List ℕ) {b : Bool} → b ≡ anyOf (same m) prefectures → b ≡ middle (todayWith table) m
 unfolding middle todayWith
@@ -79,11 +84,11 @@ some-label none = omega arith
 some-label (cut d) = omega arith
 some-label (held p d) = omega arith
 
-too-many : (P : Permits) (ls : List (List ℕ)) → (length ls ≡ 2 → ⊥) → (length ls ≡ 3 → ⊥) → refusal 5 0 ≡ byLabels P ls
+too-many : (P : Permits) (ls : List (List ℕ)) → (length ls ≡ 2 → ⊥) → (length ls ≡ 3 → ⊥) → refused 5 0 ≡ byLabels P ls
 too-many P ls f g = sym (name-5 P ls (rw (ne-eqb (length ls) 2 f, ne-eqb (length ls) 3 g) (and-false (P .three))))
 
 -- the search from 0 came to a, that from a + 1 to b, that from b + 1 to d
-module _ (t : List ℕ) (a : ℕ) (sa : a ≡ 0 + firstOf period (drop 0 t)) where
+module _ (t : List ℕ) (a : ℕ) (sa : a ≡ 0 + indexOf period (drop 0 t)) where
   pub one-is : length t ≤ a → labels t ≡ t ∷ []
   one-is k = last-from t 0 a (omega arith) sa k
 
@@ -91,14 +96,14 @@ module _ (t : List ℕ) (a : ℕ) (sa : a ≡ 0 + firstOf period (drop 0 t)) whe
     first-is : labels t ≡ take (a - 0) (drop 0 t) ∷ labels (drop (a + 1) t)
     first-is = first-from t 0 a (omega arith) sa ka
 
-    module _ (b : ℕ) (sb : b ≡ a + 1 + firstOf period (drop (a + 1) t)) where
+    module _ (b : ℕ) (sb : b ≡ a + 1 + indexOf period (drop (a + 1) t)) where
       pub two-is : length t ≤ b → labels t ≡ take (a - 0) (drop 0 t) ∷ take (length t - (a + 1)) (drop (a + 1) t) ∷ []
       two-is k =
           let w : take (length t - (a + 1)) (drop (a + 1) t) ≡ drop (a + 1) t =
           take-all (length t - (a + 1)) (drop (a + 1) t) (omega (arith, length-drop (a + 1) t)) in
           rw (w, first-is, last-from t (a + 1) b (omega arith) sb k)
 
-      module _ (kb : b < length t) (d : ℕ) (sd : d ≡ b + 1 + firstOf period (drop (b + 1) t)) where
+      module _ (kb : b < length t) (d : ℕ) (sd : d ≡ b + 1 + indexOf period (drop (b + 1) t)) where
         two : labels t ≡ take (a - 0) (drop 0 t) ∷ take (b - (a + 1)) (drop (a + 1) t) ∷ labels (drop (b + 1) t)
         two = first-is ∙ ap (λ (ls : List (List ℕ)). take (a - 0) (drop 0 t) ∷ ls) (first-from t (a + 1) b (omega arith) sb kb)
 
@@ -115,28 +120,22 @@ module _ (t : List ℕ) (a : ℕ) (sa : a ≡ 0 + firstOf period (drop 0 t)) whe
         more-is k =
             two ∙ ap (λ (ls : List (List ℕ)). take (a - 0) (drop 0 t) ∷ take (b - (a + 1)) (drop (a + 1) t) ∷ ls) (first-from t (b + 1) d (omega arith) sd k)
 
-module _ (P : Permits) (t : List ℕ) (a : ℕ) (sa : a ≡ 0 + firstOf period (drop 0 t)) where
-  pub one-label : length t ≤ a → refusal 5 0 ≡ byLabels P (labels t)
+module _ (P : Permits) (t : List ℕ) (a : ℕ) (sa : a ≡ 0 + indexOf period (drop 0 t)) where
+  pub one-label : length t ≤ a → refused 5 0 ≡ byLabels P (labels t)
   one-label k = rw (one-is t a sa k) (too-many P (t ∷ []) (λ x. omega arith) (λ x. omega arith))
 
-  pub left-fit : a < length t → anyOf (unfit P) t ≡ false → allOf (labelChar P) (take (a - 0) (drop 0 t)) ≡ true
-  unfolding allOf
-  left-fit ka u =
-      both (allOf (labelChar P) (take (a - 0) (drop 0 t))) _
-      (ap (allOf (allOf (labelChar P))) (sym (first-is t a sa ka)) ∙ labels-fit P t u) .0
-
-  module _ (ka : a < length t) (b : ℕ) (sb : b ≡ a + 1 + firstOf period (drop (a + 1) t)) where
+  module _ (ka : a < length t) (b : ℕ) (sb : b ≡ a + 1 + indexOf period (drop (a + 1) t)) where
     pub two-labels : {v : Verdict} → length t ≤ b
         → v ≡ byLabels P (take (a - 0) (drop 0 t) ∷ take (length t - (a + 1)) (drop (a + 1) t) ∷ []) → v ≡ byLabels P (labels t)
     two-labels k e = e ∙ rw (two-is t a sa ka b sb k)
 
-    module _ (kb : b < length t) (d : ℕ) (sd : d ≡ b + 1 + firstOf period (drop (b + 1) t)) where
+    module _ (kb : b < length t) (d : ℕ) (sd : d ≡ b + 1 + indexOf period (drop (b + 1) t)) where
       pub three-labels : {v : Verdict} → length t ≤ d
           → v ≡ byLabels P (take (a - 0) (drop 0 t) ∷ take (b - (a + 1)) (drop (a + 1) t) ∷ take (length t - (b + 1)) (drop (b + 1) t) ∷ [])
           → v ≡ byLabels P (labels t)
       three-labels k e = e ∙ rw (three-is t a sa ka b sb kb d sd k)
 
-      pub more-labels : d < length t → refusal 5 0 ≡ byLabels P (labels t)
+      pub more-labels : d < length t → refused 5 0 ≡ byLabels P (labels t)
       more-labels k =
           let n = some-label (labelled (drop (d + 1) t)) in
           let e = more-is t a sa ka b sb kb d sd k in

@@ -1,4 +1,5 @@
--- What the calls on a name answer, and what they leave in the buffer that is lent to them: document 01, 'Numbers a call may answer'.
+-- What the calls on a name answer, and what they leave in the buffer that is lent to them: document 01, 'Numbers a
+-- call may answer'.
 use mathlib.Core.Bool.{Bool, not, _&&_}
 use mathlib.Core.List.{List, [], _∷_, _++_, map}
 use mathlib.Core.Path.{_≡_}
@@ -14,8 +15,10 @@ use Rattle.punycode.specs.Calls.{coderNumber}
 use Rattle.rules.specs.Labels.{labels, join}
 use Rattle.rules.specs.Permits.{Permits}
 use Rattle.rules.specs.Rules.{isJapanese, textRows, verdict, rules}
+use Rattle.rules.specs.declared.Verdict.{Verdict}
 use Rattle.names.specs.declared.Judged.{Judged}
 use Rattle.names.specs.declared.Checked.{Checked}
+use Rattle.names.specs.declared.AsciiForm.{AsciiForm}
 
 -- ---- the judge: what the rules say of a text, with its normal form
 
@@ -30,17 +33,20 @@ padded xs = xs ++ replicate (256 - length xs) 0
 unfoldable pub judged : Permits → List ℕ → Judged
 judged P text =
     let v = rules P text in
-    record { number = v .number; place = v .place; class = v .class; form = padded (shown text); length = length (shown text) }
+    record {
+      number = v .number;
+      place = v .place;
+      class = v .class;
+      form = padded (shown text);
+      length = length (shown text);
+    }
 
 -- ---- what a call that writes answers, from its rows and what it would write
 
-unfoldable pub checked : List Row → List ℕ → List ℕ → Checked
-checked rows text xs =
-    let v = verdict (first rows) (labels (normalForm text)) in
-    record { number = v .number; place = v .place; class = v .class; length = length (given (first rows) xs) }
-
-pub record Answers (rows : List Row) (text xs before after : List ℕ) (r : Checked) : Type 0 where
-  pub result : r ≡ checked rows text xs
+-- `make` makes the call's struct of what is said and of the length of what is written
+pub record Answers {R : Type 0} (make : Verdict → ℕ → R) (rows : List Row) (text xs before after : List ℕ) (r : R)
+    : Type 0 where
+  pub result : r ≡ make (verdict (first rows) (labels (normalForm text))) (length (given (first rows) xs))
   pub buffer : after ≡ written (given (first rows) xs) before
 
 -- ---- the check: 1 for a buffer under 256, then the rules; with 0 it writes the normal form
@@ -48,8 +54,15 @@ pub record Answers (rows : List Row) (text xs before after : List ℕ) (r : Chec
 unfoldable pub checkRows : Permits → List ℕ → ℕ → List Row
 checkRows P text room = row 1 (ltb room 256) 0 ∷ textRows P text
 
+abbrev pub checked : Verdict → ℕ → Checked
+checked v n = record { number = v .number; place = v .place; class = v .class; length = n }
+
+-- number, place and class of such an answer
+abbrev pub checkSaid : Checked → Verdict
+checkSaid r = record { number = r .number; place = r .place; class = r .class }
+
 abbrev pub Checks : Permits → List ℕ → List ℕ → List ℕ → Checked → Type 0
-Checks P text before after r = Answers (checkRows P text (length before)) text (normalForm text) before after r
+Checks P text before after r = Answers checked (checkRows P text (length before)) text (normalForm text) before after r
 
 -- ---- the whole ASCII form: 1 for a buffer under 192, the rules, then 14; with 0 it writes the form
 
@@ -71,5 +84,13 @@ asciiRows P text room =
     row 14 (anyOf (uncoded P) (labels (normalForm text))) 0 ∷
     [])
 
-abbrev pub AsciiForms : Permits → List ℕ → List ℕ → List ℕ → Checked → Type 0
-AsciiForms P text before after r = Answers (asciiRows P text (length before)) text (asciiForm P (normalForm text)) before after r
+abbrev pub asciiFormed : Verdict → ℕ → AsciiForm
+asciiFormed v n = record { number = v .number; place = v .place; class = v .class; length = n }
+
+-- the same of this one
+abbrev pub asciiSaid : AsciiForm → Verdict
+asciiSaid r = record { number = r .number; place = r .place; class = r .class }
+
+abbrev pub AsciiForms : Permits → List ℕ → List ℕ → List ℕ → AsciiForm → Type 0
+AsciiForms P text before after r =
+    Answers asciiFormed (asciiRows P text (length before)) text (asciiForm P (normalForm text)) before after r

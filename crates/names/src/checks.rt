@@ -6,12 +6,12 @@ use crate::judges::judge_into;
 use rules::Class;
 ghost use mathlib.Core.Path.{_≡_};
 ghost use Rattle.rules.specs.Editions.{today, todayWith};
-ghost use Rattle.names.specs.Calls.{Checks};
-ghost use Rattle.names.specs.Steps.{refusedCall};
+ghost use Rattle.rules.specs.Rules.{refused};
+ghost use Rattle.names.specs.Calls.{checked, Checks};
 
 // A refusal: length 0, and nothing is written.
-pub(crate) fn refused(number: u8, place: usize) -> Checked
-    ensures { λ r. ⌜ r ≡ refusedCall number place ⌝ }
+fn refused_check(number: u8, place: usize) -> Checked
+    ensures { λ r. ⌜ r ≡ checked (refused number place) 0 ⌝ }
 {
     Checked {
         number,
@@ -25,18 +25,18 @@ pub fn check_with(kanji: &[u32], text: &[u32], out: &mut [u32]) -> Checked
     ensures { λ r. ⌜ Checks (todayWith (now (kanji .entry))) (now (text .entry)) (now (out .entry)) (now (out .exit)) r ⌝ }
 {
     if out.len() < 256 {
-        return refused(NO_ROOM, 0);
+        return refused_check(NO_ROOM, 0);
     }
     let mut form = [0u32; 256];
     let room: &mut [u32] = &mut form;
-    let judged = judge_into(kanji, text, room);
-    if judged.number != ACCEPTED {
-        return refused(judged.number, judged.place);
+    let ruled = judge_into(kanji, text, room);
+    if ruled.number != ACCEPTED {
+        return refused_check(ruled.number, ruled.place);
     }
-    let length = judged.length;
-    let whole: &[u32] = room;
-    lists::copy(&whole[0..length], out);
-    let class = judged.class;
+    let length = ruled.length;
+    let buffer: &[u32] = room;
+    lists::copy(&buffer[0..length], out);
+    let class = ruled.class;
     Checked {
         number: ACCEPTED,
         place: 0,

@@ -1,32 +1,28 @@
 // Whether a text may yet become a name: the labels of its normal form, the last of them unfinished (rules, specs/Hopeful).
 use crate::ACCEPTED;
-use crate::labels::begins_jp;
-use crate::labels::first_unfit;
-use crate::labels::label_end;
-use crate::labels::left_rule;
-use crate::middles::begins_prefecture;
-use crate::middles::is_prefecture;
+use crate::LEAST;
+use crate::judges::front_into;
+use endings::begins_jp;
+use endings::begins_prefecture;
+use endings::is_prefecture;
+use labels::label_end;
+use labels::label_rule_with;
 ghost use mathlib.Core.Path.{_≡_};
-ghost use mathlib.Core.Bool.{true, false};
 ghost use mathlib.Core.List.{_∷_, [], _++_};
-ghost use Rattle.lists.specs.Tests.{allOf, anyOf};
 ghost use Rattle.rules.specs.Labels.{labels};
-ghost use Rattle.rules.specs.Permits.{labelChar};
-ghost use Rattle.rules.specs.Rules.{unfit};
 ghost use Rattle.rules.specs.Editions.{today, todayWith};
 ghost use Rattle.rules.specs.Hopeful.{leftmost, grows, hopeful};
 
 // Fit as a leftmost label?
 fn is_leftmost(kanji: &[u32], label: &[u32]) -> bool
-    requires { ⌜ allOf (labelChar (todayWith (now kanji))) (now label) ≡ true ⌝ }
     ensures { λ r. ⌜ r ≡ leftmost (todayWith (now (kanji .entry))) (now (label .entry)) ⌝ }
 {
-    left_rule(kanji, label) == ACCEPTED
+    let rule = label_rule_with(kanji, label, LEAST, 0);
+    rule.number == ACCEPTED
 }
 
 // The same with c put after it. A label past 63 is too long already.
 fn leftmost_plus(kanji: &[u32], label: &[u32], c: u32) -> bool
-    requires { ⌜ allOf (labelChar (todayWith (now kanji))) (now label ++ c ∷ []) ≡ true ⌝ }
     ensures { λ r. ⌜ r ≡ leftmost (todayWith (now (kanji .entry))) (now (label .entry) ++ c ∷ []) ⌝ }
 {
     let n = label.len();
@@ -36,13 +32,12 @@ fn leftmost_plus(kanji: &[u32], label: &[u32], c: u32) -> bool
     let mut longer = [0u32; 64];
     lists::copy(label, &mut longer);
     longer[n] = c;
-    let whole: &[u32] = &longer;
-    is_leftmost(kanji, &whole[0..n + 1])
+    let buffer: &[u32] = &longer;
+    is_leftmost(kanji, &buffer[0..n + 1])
 }
 
 // One label, unfinished: as it is, with a hiragana more, with a letter more.
 fn one_grows(kanji: &[u32], label: &[u32]) -> bool
-    requires { ⌜ allOf (labelChar (todayWith (now kanji))) (now label) ≡ true ⌝ }
     ensures { λ r. ⌜ r ≡ grows (todayWith (now (kanji .entry))) (now (label .entry) ∷ []) ⌝ }
 {
     if is_leftmost(kanji, label) {
@@ -56,7 +51,6 @@ fn one_grows(kanji: &[u32], label: &[u32]) -> bool
 
 // A leftmost label, and the beginning of "jp" or of a prefecture label.
 fn two_grow(kanji: &[u32], left: &[u32], last: &[u32]) -> bool
-    requires { ⌜ allOf (labelChar (todayWith (now kanji))) (now left) ≡ true ⌝ }
     ensures { λ r. ⌜ r ≡ grows (todayWith (now (kanji .entry))) (now (left .entry) ∷ now (last .entry) ∷ []) ⌝ }
 {
     if !is_leftmost(kanji, left) {
@@ -70,7 +64,6 @@ fn two_grow(kanji: &[u32], left: &[u32], last: &[u32]) -> bool
 
 // A leftmost label, a prefecture label, and the beginning of "jp".
 fn three_grow(kanji: &[u32], left: &[u32], middle: &[u32], last: &[u32]) -> bool
-    requires { ⌜ allOf (labelChar (todayWith (now kanji))) (now left) ≡ true ⌝ }
     ensures { λ r. ⌜ r ≡ grows (todayWith (now (kanji .entry))) (now (left .entry) ∷ now (middle .entry) ∷ now (last .entry) ∷ []) ⌝ }
 {
     if !is_leftmost(kanji, left) {
@@ -82,9 +75,8 @@ fn three_grow(kanji: &[u32], left: &[u32], middle: &[u32], last: &[u32]) -> bool
     begins_jp(last)
 }
 
-// The labels of a form whose characters are fit.
+// The labels of a form.
 fn form_grows(kanji: &[u32], form: &[u32]) -> bool
-    requires { ⌜ anyOf (unfit (todayWith (now kanji))) (now form) ≡ false ⌝ }
     ensures { λ r. ⌜ r ≡ grows (todayWith (now (kanji .entry))) (labels (now (form .entry))) ⌝ }
 {
     let n = form.len();
@@ -113,18 +105,13 @@ pub fn may_become_with(kanji: &[u32], text: &[u32]) -> bool
         return true;
     }
     let mut form = [0u32; 256];
-    let normal = normal::normal_form(text, &mut form);
-    if normal.number != ACCEPTED {
+    let front = front_into(kanji, text, &mut form);
+    if front.number != ACCEPTED {
         return false;
     }
-    let length = normal.length;
+    let length = front.length;
     let buffer: &[u32] = &form;
-    let whole = &buffer[0..length];
-    let k = first_unfit(kanji, whole);
-    if k < length {
-        return false;
-    }
-    form_grows(kanji, whole)
+    form_grows(kanji, &buffer[0..length])
 }
 
 // The same by the kanji of this edition.

@@ -1,35 +1,32 @@
 // The judge: what the rules say of a text, with its normal form. The check asks it, the live check, and the whole ASCII form of all but the
 // usual name.
 use crate::ACCEPTED;
-use crate::Checked;
 use crate::EMPTY_LABEL;
 use crate::Judged;
 use crate::LABEL_COUNT;
+use crate::LEAST;
 use crate::NOT_JP;
 use crate::NOT_PREFECTURE;
 use crate::UNFIT;
-use crate::labels::first_unfit;
-use crate::labels::is_jp;
-use crate::labels::label_end;
-use crate::labels::left_rule;
-use crate::middles::is_prefecture;
+use endings::is_jp;
+use endings::is_prefecture;
+use labels::first_unfit_with;
+use labels::label_end;
+use labels::label_rule_with;
 use rules::Class;
 use rules::Verdict;
 ghost use mathlib.Core.Path.{_≡_};
-ghost use mathlib.Core.Bool.{true, false};
 ghost use mathlib.Core.List.{_∷_, []};
 ghost use Prim.Native.Nat.{_≤_};
 ghost use lib.ListN.{length};
-ghost use Rattle.lists.specs.Tests.{allOf, anyOf};
 ghost use Rattle.rules.specs.Labels.{labels};
-ghost use Rattle.rules.specs.Permits.{labelChar};
-ghost use Rattle.rules.specs.Rules.{accepted, unfit};
+ghost use Rattle.rules.specs.Rules.{byLabels, accepted, refused};
 ghost use Rattle.rules.specs.Editions.{today, todayWith};
 ghost use Rattle.names.specs.Calls.{judged};
-ghost use Rattle.names.specs.Steps.{refusal, byLabels, Judges};
+ghost use Rattle.names.specs.Steps.{Fronts, Judges};
 
 fn refused(number: u8, place: usize) -> Verdict
-    ensures { λ r. ⌜ r ≡ refusal number place ⌝ }
+    ensures { λ r. ⌜ r ≡ refused number place ⌝ }
 {
     Verdict {
         number,
@@ -50,7 +47,6 @@ fn accepted(class: Class) -> Verdict
 
 // The rules of two labels, 6 to 11.
 fn two_labels(kanji: &[u32], left: &[u32], last: &[u32]) -> Verdict
-    requires { ⌜ allOf (labelChar (todayWith (now kanji))) (now left) ≡ true ⌝ }
     ensures { λ r. ⌜ r ≡ byLabels (todayWith (now (kanji .entry))) (now (left .entry) ∷ now (last .entry) ∷ []) ⌝ }
 {
     if left.len() == 0 {
@@ -59,9 +55,9 @@ fn two_labels(kanji: &[u32], left: &[u32], last: &[u32]) -> Verdict
     if last.len() == 0 {
         return refused(EMPTY_LABEL, 1);
     }
-    let number = left_rule(kanji, left);
-    if number != ACCEPTED {
-        return refused(number, 0);
+    let rule = label_rule_with(kanji, left, LEAST, 0);
+    if rule.number != ACCEPTED {
+        return refused(rule.number, rule.place);
     }
     if is_jp(last) {
         return accepted(Class::General);
@@ -71,7 +67,6 @@ fn two_labels(kanji: &[u32], left: &[u32], last: &[u32]) -> Verdict
 
 // The rules of three labels, 6 to 12.
 fn three_labels(kanji: &[u32], left: &[u32], middle: &[u32], last: &[u32]) -> Verdict
-    requires { ⌜ allOf (labelChar (todayWith (now kanji))) (now left) ≡ true ⌝ }
     ensures { λ r. ⌜ r ≡ byLabels (todayWith (now (kanji .entry))) (now (left .entry) ∷ now (middle .entry) ∷ now (last .entry) ∷ []) ⌝ }
 {
     if left.len() == 0 {
@@ -83,12 +78,12 @@ fn three_labels(kanji: &[u32], left: &[u32], middle: &[u32], last: &[u32]) -> Ve
     if last.len() == 0 {
         return refused(EMPTY_LABEL, 2);
     }
-    let rule = left_rule(kanji, left);
-    if rule != ACCEPTED {
-        return refused(rule, 0);
+    let rule = label_rule_with(kanji, left, LEAST, 0);
+    if rule.number != ACCEPTED {
+        return refused(rule.number, rule.place);
     }
-    let under_jp = is_jp(last);
-    if !under_jp {
+    let ends_in_jp = is_jp(last);
+    if !ends_in_jp {
         return refused(NOT_JP, 0);
     }
     if is_prefecture(middle) {
@@ -97,9 +92,8 @@ fn three_labels(kanji: &[u32], left: &[u32], middle: &[u32], last: &[u32]) -> Ve
     refused(NOT_PREFECTURE, 0)
 }
 
-// The rules of a form whose characters are fit, 5 to 12.
+// The rules of the labels of a form, 5 to 12.
 fn name_rules(kanji: &[u32], form: &[u32]) -> Verdict
-    requires { ⌜ anyOf (unfit (todayWith (now kanji))) (now form) ≡ false ⌝ }
     ensures { λ r. ⌜ r ≡ byLabels (todayWith (now (kanji .entry))) (labels (now (form .entry))) ⌝ }
 {
     let n = form.len();
@@ -120,34 +114,68 @@ fn name_rules(kanji: &[u32], form: &[u32]) -> Verdict
     refused(LABEL_COUNT, 0)
 }
 
-// The rules on a text, 2 to 12; its normal form is left at the start of the lent buffer.
-pub(crate) fn judge_into(kanji: &[u32], text: &[u32], form: &mut [u32]) -> Checked
+// What 2 to 4 say of a text, and how long its normal form is.
+pub(crate) struct Fronted {
+    pub number: u8,
+    pub place: usize,
+    pub length: usize,
+}
+
+// The first rules on a text, 2 to 4; its normal form is left at the start of the lent buffer.
+pub(crate) fn front_into(kanji: &[u32], text: &[u32], form: &mut [u32]) -> Fronted
     requires { ⌜ 256 ≤ length (now form) ⌝ }
-    ensures { λ r. ⌜ Judges (todayWith (now (kanji .entry))) (now (text .entry)) (now (form .entry)) (now (form .exit)) r ⌝ }
+    ensures { λ r. ⌜ Fronts (todayWith (now (kanji .entry))) (now (text .entry)) (now (form .entry)) (now (form .exit)) r ⌝ }
 {
     let normal = normal::normal_form(text, form);
     let length = normal.length;
     if normal.number != ACCEPTED {
-        return Checked {
+        return Fronted {
             number: normal.number,
             place: normal.place,
-            class: Class::None,
             length,
         };
     }
-    let whole: &[u32] = &form[0..length];
-    let k = first_unfit(kanji, whole);
+    let k = first_unfit_with(kanji, &form[0..length]);
     if k < length {
-        return Checked {
+        return Fronted {
             number: UNFIT,
             place: normal::place_of(text, k),
+            length,
+        };
+    }
+    Fronted {
+        number: ACCEPTED,
+        place: 0,
+        length,
+    }
+}
+
+// What the rules say of a text, and how long its normal form is.
+pub(crate) struct Ruled {
+    pub number: u8,
+    pub place: usize,
+    pub class: Class,
+    pub length: usize,
+}
+
+// The rules on a text, 2 to 12; its normal form is left at the start of the lent buffer.
+pub(crate) fn judge_into(kanji: &[u32], text: &[u32], form: &mut [u32]) -> Ruled
+    requires { ⌜ 256 ≤ length (now form) ⌝ }
+    ensures { λ r. ⌜ Judges (todayWith (now (kanji .entry))) (now (text .entry)) (now (form .entry)) (now (form .exit)) r ⌝ }
+{
+    let front = front_into(kanji, text, form);
+    let length = front.length;
+    if front.number != ACCEPTED {
+        return Ruled {
+            number: front.number,
+            place: front.place,
             class: Class::None,
             length,
         };
     }
-    let verdict = name_rules(kanji, whole);
+    let verdict = name_rules(kanji, &form[0..length]);
     let class = verdict.class;
-    Checked {
+    Ruled {
         number: verdict.number,
         place: verdict.place,
         class,

@@ -1,15 +1,11 @@
-// The calls on a name: judge, check, whether it may yet become one, second reader, whole ASCII form. Each takes any text and any lent
-// buffer, says by itself whether the text is fit, and writes nothing where it refuses. Its meaning is defined in `rules` (specs/Rules,
-// Hopeful, Reader) and here in specs/Calls. A call `.._with` is lent the table of kanji, so that a program names that table once; the call
-// without names it itself.
+// The calls on a name: judge, check, whether it may yet become one, whole ASCII form. Each takes any text and any lent buffer, says by
+// itself whether the text is fit, and writes nothing where it refuses. Its meaning is defined in `rules` (specs/Rules, Hopeful) and here in
+// specs/Calls. A call `.._with` is lent the table of kanji, so that a program names that table once; the call without names it itself.
 mod ascii;
 mod checks;
 mod hopes;
 mod judges;
-mod labels;
-mod middles;
-mod prefectures;
-mod readers;
+mod usual;
 
 pub use ascii::to_ascii;
 pub use ascii::to_ascii_with;
@@ -19,10 +15,8 @@ pub use hopes::may_become;
 pub use hopes::may_become_with;
 pub use judges::judge;
 pub use judges::judge_with;
-pub use readers::reads;
-pub use readers::reads_with;
 
-// The numbers that a call on a name answers (document 01), besides 2 and 3, which are the normal form's.
+// The numbers that a call on a name answers (document 01), besides 2 and 3, which are the normal form's, and 7 to 10, a label's.
 pub const ACCEPTED: u8 = 0;
 
 pub const NO_ROOM: u8 = 1;
@@ -33,20 +27,16 @@ pub const LABEL_COUNT: u8 = 5;
 
 pub const EMPTY_LABEL: u8 = 6;
 
-pub const HYPHEN_EDGE: u8 = 7;
-
-pub const TOO_SHORT: u8 = 8;
-
-pub const TOO_LONG: u8 = 9;
-
-pub const BARE_DOT: u8 = 10;
-
 pub const NOT_JP: u8 = 11;
 
 pub const NOT_PREFECTURE: u8 = 12;
 
 pub const OVER_63: u8 = 14;
 
+// An ASCII label that is leftmost has so many characters at least.
+pub(crate) const LEAST: usize = 3;
+
+// What the judge answers.
 pub struct Judged {
     pub number: u8,
     pub place: usize,
@@ -55,7 +45,16 @@ pub struct Judged {
     pub length: usize,
 }
 
+// What the check answers.
 pub struct Checked {
+    pub number: u8,
+    pub place: usize,
+    pub class: rules::Class,
+    pub length: usize,
+}
+
+// What the call for the whole ASCII form answers.
+pub struct AsciiForm {
     pub number: u8,
     pub place: usize,
     pub class: rules::Class,

@@ -7,11 +7,13 @@ use Prim.Native.Nat.{ℕ, _≤_, _<_}
 use lib.ListN.{length}
 use lib.Dec.{eqb}
 use borrow.Author.Tests.{lt-ltb, le-ltb, eq-eqb, ne-eqb, eqb-false}
-use Rattle.lists.specs.Rows.{Answer, accepted}
+use Rattle.lists.specs.Front.{written}
+use Rattle.lists.specs.Rows.{accepted}
+use Rattle.lists.specs.declared.Answer.{Answer}
 use Rattle.lists.proofs.Fronts.{untouched}
 use Rattle.lists.proofs.Tables.{passed-over, hit, clear, given-all, given-none}
 use Rattle.normal.specs.Normal.{normalForm}
-use Rattle.normal.specs.Calls.{rows, answer, writes, Normalises, Wrote}
+use Rattle.normal.specs.Calls.{rows, answer, writes, Normalises}
 
 abbrev refusal : ℕ → ℕ → Answer
 refusal n p = record { number = n; place = p }
@@ -44,10 +46,10 @@ module _ (text before : List ℕ) where
       unfolding answer rows
       no-refusal l = clear (rows text (length before)) (le-ltb _ _ h, (ne-eqb _ _ n, (le-ltb _ _ l, tt)))
 
-      pub written-whole : {after : List ℕ} {k : ℕ} → length text ≤ 256 → Wrote (normalForm text) before after k
-          → Normalises text before after (record { number = 0; place = 0; length = k })
+      pub written-full : {after : List ℕ} {k : ℕ} → length text ≤ 256 → k ≡ length (normalForm text)
+          → after ≡ written (normalForm text) before → Normalises text before after (record { number = 0; place = 0; length = k })
       unfolding writes
-      written-whole l w = record {
-        result = rw (no-refusal l, given-all accepted (normalForm text) refl, w .count);
-        buffer = rw (no-refusal l, given-all accepted (normalForm text) refl) (w .buffer);
+      written-full l n w = record {
+        result = rw (no-refusal l, given-all accepted (normalForm text) refl, n);
+        buffer = rw (no-refusal l, given-all accepted (normalForm text) refl) w;
       }

@@ -61,7 +61,7 @@ join-on (b ∷ m ∷ rest) r e = go (eqb (composed b m) 0) (join-on (m ∷ rest)
     go true c d = ap (λ (l : List ℕ). b ∷ l) c
     go false c d = ap (λ (l : List ℕ). composed b m ∷ l) d
 
-pub continued-plain : (text r : List ℕ) → allOf unchanged r ≡ true → normalForm (text ++ r) ≡ normalForm text ++ r
-continued-plain text r e =
+pub continued-unchanged : (text r : List ℕ) → allOf unchanged r ≡ true → normalForm (text ++ r) ≡ normalForm text ++ r
+continued-unchanged text r e =
     plain (text ++ r) ∙ ap joinAll (map-append replace text r ∙ ap (λ (l : List ℕ). map replace text ++ l) (none-replaced r e))
     ∙ join-on (map replace text) r e ∙ ap (λ (l : List ℕ). l ++ r) (sym (plain text))

@@ -9,12 +9,11 @@ use native.Mathlib.Omega.{arith}
 use lib.ListN.{length, take, drop, getD, set, length-set, length-append, drop-of-length-le}
 use lib.Seq.{append-snoc, drop-cons, take-suc-set, drop-set-lt, drop-drop, set-split, length-take-le}
 use borrow.Author.Tests.{eq-eqb, ne-eqb}
-use Rattle.lists.specs.Front.{written}
+use Rattle.lists.specs.Front.{Puts}
 use Rattle.characters.specs.Replace.{replace}
 use Rattle.characters.specs.Compose.{composed}
 use Rattle.characters.proofs.Pairs.{no-base}
 use Rattle.normal.specs.Normal.{Placed, placed, replacedFrom, compose, normalPlaced, normalForm, places}
-use Rattle.normal.specs.Calls.{Wrote}
 
 -- ---- one step of the composition
 
@@ -118,18 +117,17 @@ module _ {text out₀ out : List ℕ} {last n i : ℕ} (k : Kept text out₀ out
       told = rw eo (sym (front _ _ (pending-joins text last (k .start) i h ex (λ z. e (eo ∙ z)))) ∙ k .told);
     }
 
-  pub filled : length text ≤ i → Wrote (normalForm text) out₀ (set out n last) (n + 1)
-  unfolding written
+  pub filled : length text ≤ i → Puts (normalForm text) out₀ (set out n last) 0 (n + 1)
   filled h =
       let all : take n out ++ last ∷ [] ≡ normalForm text = sym (front _ _ (ends text last (k .start) i h)) ∙ k .told in
       let fits : n < length out = omega (arith, k .long, k .fewer, k .in-text) in
-      let count : n + 1 ≡ length (normalForm text) = omega (arith, length-take-le n out (omega arith), length-append (take n out) (last ∷ []), ap length all) in
       record {
-        count = count;
+        place = omega (arith, length-take-le n out (omega arith), length-append (take n out) (last ∷ []), ap length all);
+        room = omega (arith, k .long);
         buffer =
             set-split out n last fits ∙ sym (append-snoc (take n out) last (drop (suc n) out))
             ∙ ap (λ (l : List ℕ). l ++ drop (suc n) out) all
-            ∙ ap (λ (l : List ℕ). normalForm text ++ l) (drop-more n out out₀ (k .rest) ∙ rw (← count, add-one n));
+            ∙ ap (λ (l : List ℕ). normalForm text ++ l) (drop-more n out out₀ (k .rest) ∙ rw (add-one n));
       }
 
 -- ---- the walk that looks for the k-th place

@@ -5,7 +5,8 @@ use Prim.Native.Nat.{ℕ}
 use lib.Dec.{eqb, ltb}
 use lib.ListN.{length}
 use Rattle.lists.specs.Front.{written}
-use Rattle.lists.specs.Rows.{Row, row, Answer, first, given}
+use Rattle.lists.specs.Rows.{Row, row, first, given}
+use Rattle.lists.specs.declared.Answer.{Answer}
 use Rattle.normal.specs.Normal.{normalForm}
 use Rattle.normal.specs.declared.Normal.{Normal}
 
@@ -24,11 +25,9 @@ answer text room = first (rows text room)
 unfoldable pub writes : List ℕ → ℕ → List ℕ
 writes text room = given (answer text room) (normalForm text)
 
-pub record Normalises (text before after : List ℕ) (r : Normal) : Type 0 where
-  pub result : r ≡ record { number = answer text (length before) .number; place = answer text (length before) .place; length = length (writes text (length before)) }
-  pub buffer : after ≡ written (writes text (length before)) before
+abbrev pub answered : Answer → List ℕ → Normal
+answered a form = record { number = a .number; place = a .place; length = length form }
 
--- xs stands at the buffer's start, n is its length, and past it is what was there before
-pub record Wrote (xs before after : List ℕ) (n : ℕ) : Type 0 where
-  pub count : n ≡ length xs
-  pub buffer : after ≡ written xs before
+pub record Normalises (text before after : List ℕ) (r : Normal) : Type 0 where
+  pub result : r ≡ answered (answer text (length before)) (writes text (length before))
+  pub buffer : after ≡ written (writes text (length before)) before

@@ -26,7 +26,8 @@ abbrev examples : List Example
 examples =
     -- ABC; abc 3002 FF2A FF30
     example (0x41 ∷ 0x42 ∷ 0x43 ∷ []) (0x61 ∷ 0x62 ∷ 0x63 ∷ []) (0 ∷ 1 ∷ 2 ∷ []) ∷
-    example (0x61 ∷ 0x62 ∷ 0x63 ∷ 0x3002 ∷ 0xFF2A ∷ 0xFF30 ∷ []) (0x61 ∷ 0x62 ∷ 0x63 ∷ 0x2E ∷ 0x6A ∷ 0x70 ∷ []) (0 ∷ 1 ∷ 2 ∷ 3 ∷ 4 ∷ 5 ∷ []) ∷
+    example (0x61 ∷ 0x62 ∷ 0x63 ∷ 0x3002 ∷ 0xFF2A ∷ 0xFF30 ∷ []) (0x61 ∷ 0x62 ∷ 0x63 ∷ 0x2E ∷ 0x6A ∷ 0x70 ∷ [])
+    (0 ∷ 1 ∷ 2 ∷ 3 ∷ 4 ∷ 5 ∷ []) ∷
     -- a half-width base and mark, and what follows them
     example (0xFF76 ∷ 0xFF9E ∷ 0x2E ∷ []) (0x30AC ∷ 0x2E ∷ []) (0 ∷ 2 ∷ []) ∷
     -- not across a separator
@@ -39,14 +40,17 @@ examples =
     []
 
 pub forms : map (λ (e : Example). normalForm (e .text)) examples ≡ map (λ (e : Example). e .form) examples
-unfolding normalForm normalPlaced compose replacedFrom replace replaceIn isHalf halfKana rangeIn ranges within composed eitherKana voiced repeats halfVoiced elem anyOf
+unfolding normalForm normalPlaced compose replacedFrom replace replaceIn isHalf halfKana rangeIn ranges within
+    composed eitherKana voiced repeats halfVoiced elem anyOf
 forms = refl
 
 pub begun : map (λ (e : Example). places (e .text)) examples ≡ map (λ (e : Example). e .begins) examples
-unfolding places normalPlaced compose replacedFrom replace replaceIn isHalf halfKana rangeIn ranges within composed eitherKana voiced repeats halfVoiced elem anyOf
+unfolding places normalPlaced compose replacedFrom replace replaceIn isHalf halfKana rangeIn ranges within composed
+    eitherKana voiced repeats halfVoiced elem anyOf
 begun = refl
 
 -- thirty half-width code points make fifteen characters
 pub thirty-make-fifteen : length (normalForm (often 15 (0xFF76 ∷ 0xFF9E ∷ []))) ≡ 15
-unfolding normalForm normalPlaced compose replacedFrom replace replaceIn isHalf halfKana rangeIn ranges within composed eitherKana voiced repeats halfVoiced elem anyOf
+unfolding normalForm normalPlaced compose replacedFrom replace replaceIn isHalf halfKana rangeIn ranges within
+    composed eitherKana voiced repeats halfVoiced elem anyOf
 thirty-make-fifteen = refl

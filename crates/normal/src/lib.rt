@@ -4,9 +4,10 @@
 ghost use mathlib.Core.Path.{_≡_};
 ghost use Prim.Native.Nat.{_<_, _≤_};
 ghost use lib.ListN.{getD, length};
+ghost use Rattle.lists.specs.Front.{Puts};
 ghost use Rattle.characters.specs.Compose.{composed};
 ghost use Rattle.normal.specs.Normal.{normalForm, places};
-ghost use Rattle.normal.specs.Calls.{Normalises, Wrote};
+ghost use Rattle.normal.specs.Calls.{Normalises};
 
 // The numbers that the normal form call answers.
 pub const ACCEPTED: u8 = 0;
@@ -42,7 +43,7 @@ fn joined(base: u32, mark: u32) -> u32
 // Writes the normal form to the buffer's start, and returns its length. `last` is not yet written: a mark may follow it.
 fn fill(text: &[u32], out: &mut [u32]) -> usize
     requires { ⌜ (0 < length (now text)) × (length (now text) ≤ length (now out)) ⌝ }
-    ensures { λ r. ⌜ Wrote (normalForm (now (text .entry))) (now (out .entry)) (now (out .exit)) r ⌝ }
+    ensures { λ r. ⌜ Puts (normalForm (now (text .entry))) (now (out .entry)) (now (out .exit)) 0 r ⌝ }
 {
     let mut last = characters::replaced(text[0]);
     let mut n = 0;

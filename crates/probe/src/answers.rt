@@ -3,8 +3,9 @@ ghost use Prim.Native.Nat.{_≤_};
 ghost use lib.ListN.{length};
 use crate::cases;
 use crate::kinds;
+use crate::label;
 use crate::lent;
-use crate::lines;
+use crate::line_calls;
 use crate::named;
 use crate::printed;
 use crate::slices;
@@ -18,7 +19,7 @@ fn normal_form(text: &[u32], room: usize, out: &mut [u8], from: usize) -> usize
     let buffer = &mut space[0..room];
     lent::fill_codes(buffer);
     let r = normal::normal_form(text, buffer);
-    let o = printed::put_plain(out, from, r.number, r.place, r.length);
+    let o = printed::put_unclassed(out, from, r.number, r.place, r.length);
     lent::put_codes(out, o, buffer)
 }
 
@@ -30,7 +31,7 @@ fn encode(label: &[u32], room: usize, out: &mut [u8], from: usize) -> usize
     let buffer = &mut space[0..room];
     lent::fill_octets(buffer);
     let r = punycode::encode(label, buffer);
-    let o = printed::put_plain(out, from, r.number, r.place, r.length);
+    let o = printed::put_unclassed(out, from, r.number, r.place, r.length);
     lent::put_octets(out, o, buffer)
 }
 
@@ -42,7 +43,7 @@ fn decode(octets: &[u8], room: usize, out: &mut [u8], from: usize) -> usize
     let buffer = &mut space[0..room];
     lent::fill_codes(buffer);
     let r = punycode::decode(octets, buffer);
-    let o = printed::put_plain(out, from, r.number, r.place, r.length);
+    let o = printed::put_unclassed(out, from, r.number, r.place, r.length);
     lent::put_codes(out, o, buffer)
 }
 
@@ -82,9 +83,9 @@ fn on_octets(
     let octets: &[u8] = &space[0..n];
     match call {
         b'D' => decode(octets, room, out, o),
-        b'F' => lines::fields(octets, room, out, o),
-        b'U' => lines::utf8(octets, room, out, o),
-        b'W' => lines::answer(kanji, octets, room, out, o),
+        b'F' => line_calls::fields(octets, room, out, o),
+        b'U' => line_calls::decode_utf8(octets, room, out, o),
+        b'W' => line_calls::answer(kanji, octets, room, out, o),
         _ => {
             let mut reply = [0u8; 300];
             streams::whole_batch(kanji, octets, &mut reply, out, o)
@@ -127,6 +128,7 @@ fn call(kanji: &[u32], call: u8, numbers: &[u32], room: usize, out: &mut [u8], o
         b'M' => streams::hope(kanji, numbers, out, o),
         b'N' => normal_form(numbers, room, out, o),
         b'P' => slices::places(numbers, room, out, o),
+        b'Q' => label::one_label(kanji, numbers, out, o),
         b'T' => slices::two_lists(numbers, room, out, o),
         _ => printed::put_byte(out, o, b'?'),
     }

@@ -5,7 +5,7 @@ ghost use Prim.Native.Nat.{_≤_};
 ghost use lib.ListN.{length};
 
 // No case is longer.
-const LINE: usize = 4000;
+const LONGEST_CASE: usize = 4000;
 
 // No lent buffer has more entries.
 const ROOM: u32 = 300;
@@ -143,7 +143,7 @@ fn malformed() -> Case
 pub(crate) fn read(s: &[u8], to: &mut [u32]) -> Case
     ensures { λ r. ⌜ (r .room ≤ 300) × (r .count ≤ length (now (to .entry))) ⌝ }
 {
-    if s.len() < 3 || s.len() > LINE {
+    if s.len() < 3 || s.len() > LONGEST_CASE {
         return malformed();
     }
     if s[1] != b' ' {

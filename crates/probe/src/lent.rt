@@ -85,7 +85,7 @@ pub(crate) fn put_codes(out: &mut [u8], from: usize, lent: &[u32]) -> usize {
     o
 }
 
-fn wide(b: u8) -> u32
+fn as_number(b: u8) -> u32
     ensures { λ r. ⌜ r ≡ b ⌝ }
 {
     b as u32
@@ -97,7 +97,7 @@ pub(crate) fn put_octets(out: &mut [u8], from: usize, lent: &[u8]) -> usize {
     let mut o = from;
     let mut i: usize = 0;
     while i < n {
-        o = put_entry(out, o, wide(lent[i]), wide(octet_before(i)));
+        o = put_entry(out, o, as_number(lent[i]), as_number(octet_before(i)));
         i += 1;
     }
     o

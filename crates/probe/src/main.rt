@@ -5,8 +5,9 @@
 mod answers;
 mod cases;
 mod kinds;
+mod label;
 mod lent;
-mod lines;
+mod line_calls;
 mod named;
 mod printed;
 mod slices;

@@ -31,7 +31,7 @@ pub(crate) fn check(
     lent::put_codes(out, o, buffer)
 }
 
-fn in_ascii(kanji: &[u32], own: bool, text: &[u32], buffer: &mut [u8]) -> names::Checked {
+fn in_ascii(kanji: &[u32], own: bool, text: &[u32], buffer: &mut [u8]) -> names::AsciiForm {
     if own {
         return names::to_ascii(text, buffer);
     }
@@ -61,9 +61,9 @@ pub(crate) fn to_ascii(
 // S, s: the second reader.
 pub(crate) fn reads(kanji: &[u32], own: bool, label: &[u32], out: &mut [u8], o: usize) -> usize {
     if own {
-        return printed::put_flag(out, o, names::reads(label));
+        return printed::put_flag(out, o, readers::reads(label));
     }
-    printed::put_flag(out, o, names::reads_with(kanji, label))
+    printed::put_flag(out, o, readers::reads_with(kanji, label))
 }
 
 fn judged(kanji: &[u32], own: bool, text: &[u32]) -> names::Judged {

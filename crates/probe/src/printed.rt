@@ -73,7 +73,7 @@ pub(crate) fn put_octet(out: &mut [u8], o: usize, b: u8) -> usize {
 }
 
 // The answer's number and its place.
-fn put_number(out: &mut [u8], from: usize, number: u8, place: usize) -> usize {
+pub(crate) fn put_number(out: &mut [u8], from: usize, number: u8, place: usize) -> usize {
     let mut o = put_decimal(out, from, number as u64);
     o = put_byte(out, o, b' ');
     put_decimal(out, o, place as u64)
@@ -102,7 +102,7 @@ pub(crate) fn put_counted(out: &mut [u8], from: usize, done: bool, count: usize)
 }
 
 // An answer with no class.
-pub(crate) fn put_plain(
+pub(crate) fn put_unclassed(
     out: &mut [u8],
     from: usize,
     number: u8,

@@ -15,11 +15,12 @@ use Rattle.lists.proofs.Fronts.{untouched}
 use Rattle.lists.proofs.Laws.{both, same-refl, same-is}
 use Rattle.lists.specs.Front.{written}
 use Rattle.lists.specs.Tests.{pick, within, same}
-use Rattle.punycode.specs.Calls.{answered, coderNumber, coderWrites, Encodes, lower, Encoding, small, taken, left, Decodes}
+use Rattle.punycode.specs.Calls.{coderNumber, coderWrites, coderAnswers, Encodes, lower, Encoding, small, taken, left, decoderAnswers, Decodes}
 use Rattle.punycode.specs.Decoding.{decode, lastDelimiter, octets, label, encodes, keep, found}
 use Rattle.punycode.specs.Inner.{answer}
 use Rattle.punycode.specs.Punycode.{encodable, ace}
-use Rattle.punycode.specs.declared.Coded.{Coded}
+use Rattle.punycode.specs.declared.Decoded.{Decoded}
+use Rattle.punycode.specs.declared.Encoded.{Encoded}
 use Rattle.punycode.proofs.Clipped.{whole}
 use Rattle.punycode.proofs.Theorems.{round-trip}
 
@@ -33,17 +34,17 @@ to-end k text = take-all (length text - k) (drop k text) (omega (arith, length-d
 
 -- ---- the coder
 
-module _ (l before : List ℕ) (r : Coded) where
-  refuses : (n : ℕ) → coderNumber l (length before) ≡ n → eqb n 0 ≡ false → r ≡ answered n [] → Encodes l before before r
+module _ (l before : List ℕ) (r : Encoded) where
+  refuses : (n : ℕ) → coderNumber l (length before) ≡ n → eqb n 0 ≡ false → r ≡ coderAnswers n [] → Encodes l before before r
   refuses n e z p =
       let w : coderWrites l (length before) ≡ [] = unfold coderWrites in rw (e, z) in
       record { answer = rw (w, e) p; buffer = rw w (sym (untouched before)) }
 
-  pub encodes-short : length before < 63 → r ≡ answered 1 [] → Encodes l before before r
+  pub encodes-short : length before < 63 → r ≡ coderAnswers 1 [] → Encodes l before before r
   encodes-short h p = refuses 1 (unfold coderNumber in rw (lt-ltb (length before) 63 h)) refl p
 
   module _ (room : 63 ≤ length before) where
-    pub encodes-unfit : encodable l ≡ false → r ≡ answered 13 [] → Encodes l before before r
+    pub encodes-unfit : encodable l ≡ false → r ≡ coderAnswers 13 [] → Encodes l before before r
     encodes-unfit h p = refuses 13 (unfold coderNumber in rw (le-ltb (length before) 63 room, h)) refl p
 
     module _ (fit : encodable l ≡ true) where
@@ -60,10 +61,10 @@ module _ (l before : List ℕ) (r : Coded) where
       writes-done h = rw (number-done h)
 
       module _ (t : List ℕ) (is : t ≡ take 64 (ace l)) where
-        pub encodes-long : 63 < length t → r ≡ answered 14 [] → Encodes l before before r
+        pub encodes-long : 63 < length t → r ≡ coderAnswers 14 [] → Encodes l before before r
         encodes-long g p = refuses 14 (number-long (omega (arith, ap length is, length-take 64 (ace l)))) refl p
 
-        pub encodes-done : (after : List ℕ) → length t ≤ 63 → r ≡ answered 0 t → after ≡ take (length t) t ++ drop (length t) before → Encodes l before after r
+        pub encodes-done : (after : List ℕ) → length t ≤ 63 → r ≡ coderAnswers 0 t → after ≡ take (length t) t ++ drop (length t) before → Encodes l before after r
         unfolding written
         encodes-done after g p q =
             let w : t ≡ ace l = whole (ace l) t is g in
@@ -129,23 +130,23 @@ found-complete low l h e =
 
 -- ---- the decoder
 
-module _ (octets before : List ℕ) (r : Coded) where
-  pub decodes-small : length before < 63 → r ≡ answered 1 [] → Decodes octets before before r
+module _ (octets before : List ℕ) (r : Decoded) where
+  pub decodes-small : length before < 63 → r ≡ decoderAnswers 1 [] → Decodes octets before before r
   decodes-small h p = record { number = 1; label = []; says = small h; answer = p; buffer = sym (untouched before) }
 
   module _ (room : 63 ≤ length before) where
-    refuses-15 : ((l : List ℕ) → Encoding octets l → ⊥) → r ≡ answered 15 [] → Decodes octets before before r
+    refuses-15 : ((l : List ℕ) → Encoding octets l → ⊥) → r ≡ decoderAnswers 15 [] → Decodes octets before before r
     refuses-15 f p = record { number = 15; label = []; says = left room f; answer = p; buffer = sym (untouched before) }
 
-    pub decodes-long : 63 < length octets → r ≡ answered 15 [] → Decodes octets before before r
+    pub decodes-long : 63 < length octets → r ≡ decoderAnswers 15 [] → Decodes octets before before r
     decodes-long h p = refuses-15 (λ l e. omega (arith, e .short)) p
 
     module _ (ok : Bool) (x : List ℕ) (is : found (map lower octets) ≡ answer ok x) where
-      pub decodes-left : ok ≡ false → r ≡ answered 15 [] → Decodes octets before before r
+      pub decodes-left : ok ≡ false → r ≡ decoderAnswers 15 [] → Decodes octets before before r
       unfolding answer
       decodes-left h p = refuses-15 (λ l e. Option·none-ne-some l (sym (is ∙ rw h) ∙ found-complete (map lower octets) l (e .fit) (e .is))) p
 
-      pub decodes-taken : (after : List ℕ) → ok ≡ true → length octets ≤ 63 → length x ≤ 63 → r ≡ answered 0 x → after ≡ written (take (length before) x) before
+      pub decodes-taken : (after : List ℕ) → ok ≡ true → length octets ≤ 63 → length x ≤ 63 → r ≡ decoderAnswers 0 x → after ≡ written (take (length before) x) before
           → Decodes octets before after r
       unfolding answer
       decodes-taken after h short few p q =

@@ -47,13 +47,13 @@ cap-digits (suc k) (suc f) bias j q h =
     rw (le-ltb q t g) (omega arith))
 
 -- q is between two of these
-record Between (bias q most : ℕ) : Type 0 where
+record Between (bias q labelRoom : ℕ) : Type 0 where
   k : ℕ
-  under : k < most
+  under : k < labelRoom
   from : cap k bias 36 ≤ q
   to : q < cap (suc k) bias 36
 
-ladder : (most bias q : ℕ) → q < cap most bias 36 → Between bias q most
+ladder : (labelRoom bias q : ℕ) → q < cap labelRoom bias 36 → Between bias q labelRoom
 unfolding cap
 ladder zero bias q h = absurd (omega arith)
 ladder (suc k) bias q h = split q (cap k bias 36)
@@ -334,8 +334,8 @@ ace-short l few each more =
     let b = length (below 0x80 l) in
     let go = keys-go l (omega arith) (near-bounded l each) in
     let count : b + length (keys l) ≡ length l = from-count 0x10FF80 0x80 l ∙ ap length (near-bounded l each) in
-    let most = cost (keys l) (go .climbs) (from-good 0x10FF80 0x80 l (omega arith) few each) count in
-    let size : 12000 * length (extended l) ≤ room b + 40736 = rw (go .writes) at most in
+    let labelRoom = cost (keys l) (go .climbs) (from-good 0x10FF80 0x80 l (omega arith) few each) count in
+    let size : 12000 * length (extended l) ≤ room b + 40736 = rw (go .writes) at labelRoom in
     let parts : length (encode l) ≡ length (below 0x80 l ++ delimiter b) + length (extended l) = length-append (below 0x80 l ++ delimiter b) (extended l) in
     omega (arith, size, room-is b (omega arith), length-append (below 0x80 l) (delimiter b))
   where

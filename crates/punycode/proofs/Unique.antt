@@ -14,15 +14,16 @@ use Rattle.lists.proofs.Laws.{both, clash, outside}
 use Rattle.lists.proofs.Unique.{decided}
 use Rattle.lists.specs.Front.{written}
 use Rattle.lists.specs.Tests.{pick, allOf}
-use Rattle.punycode.specs.Calls.{answered, coderNumber, coderWrites, Encodes, lower, Encoding, DecoderSays, small, taken, left, Decodes}
+use Rattle.punycode.specs.Calls.{coderNumber, coderWrites, Encodes, lower, Encoding, DecoderSays, small, taken, left, decoderAnswers, Decodes}
 use Rattle.punycode.specs.Punycode.{alnum, ldh, encodable, ace}
-use Rattle.punycode.specs.declared.Coded.{Coded}
+use Rattle.punycode.specs.declared.Decoded.{Decoded}
+use Rattle.punycode.specs.declared.Encoded.{Encoded}
 use Rattle.punycode.proofs.Rungs.{lower-other}
 use Rattle.punycode.proofs.Theorems.{ace-ldh, ace-injective}
 
 -- ---- each call has one result
 
-module _ {label before after after′ : List ℕ} {r r′ : Coded} where
+module _ {label before after after′ : List ℕ} {r r′ : Encoded} where
   pub encodes-once : Encodes label before after r → Encodes label before after′ r′ → (after ≡ after′) × (r ≡ r′)
   encodes-once u v = (decided (u .buffer) (v .buffer), decided (u .answer) (v .answer))
 
@@ -40,12 +41,12 @@ decoding-once (left h f) (small g) = absurd (omega arith)
 decoding-once (left h f) (taken l g e) = absurd (f l e)
 decoding-once (left h f) (left g f′) = (refl, refl)
 
-module _ {octets before after after′ : List ℕ} {r r′ : Coded} where
+module _ {octets before after after′ : List ℕ} {r r′ : Decoded} where
   pub decodes-once : Decodes octets before after r → Decodes octets before after′ r′ → (after ≡ after′) × (r ≡ r′)
   decodes-once u v =
       let e = decoding-once (u .says) (v .says) in (
         u .buffer ∙ ap (λ x. written x before) (e .1) ∙ sym (v .buffer),
-        u .answer ∙ (λ i. answered (e .0 i) (e .1 i)) ∙ sym (v .answer),
+        u .answer ∙ (λ i. decoderAnswers (e .0 i) (e .1 i)) ∙ sym (v .answer),
       )
 
 -- ---- there and back
@@ -81,15 +82,15 @@ unfolding coderWrites
 writes-ace l room e = rw e
 
 -- what a coder wrote with the number 0, a decoder that has room takes back to the label
-module _ {l before after : List ℕ} {r : Coded} (coded : Encodes l before after r) (accepted : r .number ≡ 0) where
+module _ {l before after : List ℕ} {r : Encoded} (coded : Encodes l before after r) (accepted : r .number ≡ 0) where
   wrote : take (r .length) after ≡ ace l
   wrote =
       let zero : coderNumber l (length before) ≡ 0 = sym (ap (λ x. x .number) (coded .answer)) ∙ accepted in
       let w = writes-ace l (length before) zero in
       rw (coded .answer, coded .buffer, w) (front (ace l) before)
 
-  pub there-and-back : {buffer last : List ℕ} {q : Coded} → 63 ≤ length buffer → Decodes (take (r .length) after) buffer last q
-      → (last ≡ written l buffer) × (q ≡ answered 0 l)
+  pub there-and-back : {buffer last : List ℕ} {q : Decoded} → 63 ≤ length buffer → Decodes (take (r .length) after) buffer last q
+      → (last ≡ written l buffer) × (q ≡ decoderAnswers 0 l)
   there-and-back {buffer} {last} {q} room d =
       let zero : coderNumber l (length before) ≡ 0 = sym (ap (λ x. x .number) (coded .answer)) ∙ accepted in
       let z = number-zero l (length before) zero in

@@ -1,4 +1,5 @@
--- RFC 3492, the decoding procedure of section 6.2, an octet at a time: how the code finds a label. No public statement rests on it.
+-- RFC 3492, the decoding procedure of section 6.2, an octet at a time: how the code finds a label. No public
+-- statement rests on it.
 use mathlib.Core.Bool.{Bool, _&&_}
 use mathlib.Core.List.{List, [], _∷_, _++_}
 use mathlib.Core.Option.{Option, none, some}
@@ -14,7 +15,7 @@ value c = pick (within 0x61 0x7A c) (c - 0x61) (pick (within 0x30 0x39 c) (c - 0
 
 -- What the loops change: n, bias, the output, oldi, i, w and k. Between two integers oldi is i, w is 1 and k is base.
 pub data Dec : Type 0 where
-  refused : Dec
+  stuck : Dec
   reading : ℕ → ℕ → List ℕ → ℕ → ℕ → ℕ → ℕ → Dec
 
 -- insert x into l at position p
@@ -27,16 +28,17 @@ place n out oldi i =
     let len = length out + 1 in
     let m = n + i / len in
     let p = i % len in
-    pick (ltb m limit) (reading m (adapt (i - oldi) len (eqb oldi 0)) (insert p m out) (p + 1) (p + 1) 1 base) refused
+    pick (ltb m limit) (reading m (adapt (i - oldi) len (eqb oldi 0)) (insert p m out) (p + 1) (p + 1) 1 base) stuck
 
 -- i stays below 64 times the limit: fail on overflow
 unfoldable pub octet : ℕ → Dec → Dec
-octet c refused = refused
+octet c stuck = stuck
 octet c (reading n bias out oldi i w k) =
     let d = value c in
     let j = i + d * w in
     let t = threshold k bias in
-    pick (ltb d base && ltb j (64 * limit)) (pick (ltb d t) (place n out oldi j) (reading n bias out oldi j (w * (base - t)) (k + base))) refused
+    pick (ltb d base && ltb j (64 * limit))
+    (pick (ltb d t) (place n out oldi j) (reading n bias out oldi j (w * (base - t)) (k + base))) stuck
 
 unfoldable pub octets : List ℕ → Dec → Dec
 octets [] s = s
@@ -52,7 +54,7 @@ lastDelimiter j r (c ∷ cs) = lastDelimiter (j + 1) (mark c j r) cs
 
 -- the output, where the input ends between two integers
 unfoldable pub label : Dec → Option (List ℕ)
-label refused = none
+label stuck = none
 label (reading n bias out oldi i w k) = pick (eqb w 1) (some out) none
 
 unfoldable pub decode : List ℕ → Option (List ℕ)

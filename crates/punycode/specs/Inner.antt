@@ -5,7 +5,7 @@ use mathlib.Core.Option.{Option, none, some}
 use Prim.Native.Nat.{ℕ, _*_, _≤_, _<_}
 use lib.ListN.{take}
 use Rattle.lists.specs.Tests.{pick}
-use Rattle.punycode.specs.Decoding.{Dec, reading, refused}
+use Rattle.punycode.specs.Decoding.{Dec, reading, stuck}
 use Rattle.punycode.specs.Punycode.{Enc, limit}
 use Rattle.punycode.specs.declared.coder.State.{State}
 use Rattle.punycode.specs.declared.decoder.Reader.{Reader}
@@ -24,10 +24,10 @@ held s text = record { delta = s .delta; bias = s .bias; h = s .h; out = take (s
 
 -- the decoder's own state, over the buffer that it writes to
 unfoldable pub read : Reader → List ℕ → Dec
-read s text = pick (s .ok) (reading (s .n) (s .bias) (take (s .len) text) (s .oldi) (s .i) (s .w) (s .k)) refused
+read s text = pick (s .ok) (reading (s .n) (s .bias) (take (s .len) text) (s .oldi) (s .i) (s .w) (s .k)) stuck
 
 -- what bounds the numbers of the next step
-pub record Sound (s : Reader) : Type 0 where
+pub record Bounded (s : Reader) : Type 0 where
   pub n-low : s .n < limit
   pub len-low : s .len ≤ 63
   pub i-low : s .i < 64 * limit

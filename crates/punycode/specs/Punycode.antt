@@ -1,4 +1,5 @@
--- RFC 3492 on lists of numbers: the encoding procedure of section 6.3 with the parameter values of section 5, and which labels are encoded.
+-- RFC 3492 on lists of numbers: the encoding procedure of section 6.3 with the parameter values of section 5, and
+-- which labels are encoded.
 use mathlib.Core.Bool.{Bool, not, _&&_, _||_}
 use mathlib.Core.List.{List, [], _∷_, _++_}
 use Prim.Native.Nat.{ℕ, zero, suc, _+_, _-_, _*_, _/_, _%_}
@@ -66,7 +67,8 @@ adapt delta numpoints firsttime =
 unfoldable pub threshold : ℕ → ℕ → ℕ
 threshold k bias = pick (leb k bias) tmin (pick (leb (bias + tmax) k) tmax (k - bias))
 
--- q as a variable-length integer, for k = base to infinity in steps of base; each step makes q smaller, so that q bounds the steps f
+-- q as a variable-length integer, for k = base to infinity in steps of base; each step makes q smaller, so that q
+-- bounds the steps f
 unfoldable pub varint : ℕ → ℕ → ℕ → ℕ → List ℕ
 varint zero bias k q = []
 varint (suc f) bias k q =
@@ -111,8 +113,9 @@ unfoldable pub least : ℕ → List ℕ → ℕ → ℕ
 least n [] m = m
 least n (c ∷ cs) m = least n cs (nearer n c m)
 
--- while h < length(input): find m, let delta = delta + (m - n) * (h + 1), let n = m, pass over the input, increment delta and n.
--- Each pass makes n larger, and no code point is as large as the limit, so that the limit bounds the passes f.
+-- while h < length(input): find m, let delta = delta + (m - n) * (h + 1), let n = m, pass over the input, increment
+-- delta and n. Each pass makes n larger, and no code point is as large as the limit, so that the limit bounds the
+-- passes f.
 unfoldable pub passes : ℕ → List ℕ → ℕ → ℕ → Enc → Enc
 passes zero l b n s = s
 passes (suc f) l b n s =

@@ -15,7 +15,7 @@ ghost use lib.Dec.{eqb};
 ghost use lib.ListN.{length, take, drop};
 ghost use Rattle.punycode.specs.Calls;
 ghost use Rattle.punycode.specs.Decoding;
-ghost use Rattle.punycode.specs.Inner.{read, Sound, answer};
+ghost use Rattle.punycode.specs.Inner.{read, Bounded, answer};
 
 fn value(c: u8) -> u32
     ensures { λ r. ⌜ (r ≡ Decoding.value c) × (r ≤ 36) ⌝ }
@@ -82,8 +82,8 @@ struct Reader {
 }
 
 fn stopped(s: Reader) -> Reader
-    requires { ⌜ Sound s ⌝ }
-    ensures { λ r. ⌜ Sound r × (r .ok ≡ false) × (r .len ≡ s .len) × (r .k ≡ s .k) ⌝ }
+    requires { ⌜ Bounded s ⌝ }
+    ensures { λ r. ⌜ Bounded r × (r .ok ≡ false) × (r .len ≡ s .len) × (r .k ≡ s .k) ⌝ }
 {
     Reader {
         ok: false,
@@ -98,8 +98,8 @@ fn stopped(s: Reader) -> Reader
 }
 
 fn place(s: Reader, i: u32, out: &mut [u32]) -> Reader
-    requires { ⌜ (length (now out) ≡ 64) × Sound s × (s .len < 63) × (s .oldi ≤ i) × (i < 0x4400000) ⌝ }
-    ensures { λ r. ⌜ Sound r × (r .len ≤ s .len + 1) × (r .k ≤ s .k + 36)
+    requires { ⌜ (length (now out) ≡ 64) × Bounded s × (s .len < 63) × (s .oldi ≤ i) × (i < 0x4400000) ⌝ }
+    ensures { λ r. ⌜ Bounded r × (r .len ≤ s .len + 1) × (r .k ≤ s .k + 36)
         × (read r (now (out .exit)) ≡ Decoding.place (s .n) (take (s .len) (now (out .entry))) (s .oldi) i) ⌝ }
 {
     let len = s.len as u32 + 1;
@@ -123,8 +123,8 @@ fn place(s: Reader, i: u32, out: &mut [u32]) -> Reader
 }
 
 fn octet(c: u8, s: Reader, out: &mut [u32]) -> Reader
-    requires { ⌜ (length (now out) ≡ 64) × Sound s × (s .len < 63) × (s .k < 0x10000) ⌝ }
-    ensures { λ r. ⌜ Sound r × (r .len ≤ s .len + 1) × (r .k ≤ s .k + 36)
+    requires { ⌜ (length (now out) ≡ 64) × Bounded s × (s .len < 63) × (s .k < 0x10000) ⌝ }
+    ensures { λ r. ⌜ Bounded r × (r .len ≤ s .len + 1) × (r .k ≤ s .k + 36)
         × (read r (now (out .exit)) ≡ Decoding.octet c (read s (now (out .entry)))) ⌝ }
 {
     let ok = s.ok;
@@ -156,8 +156,8 @@ fn octet(c: u8, s: Reader, out: &mut [u32]) -> Reader
 }
 
 fn octets(e: &[u8], from: usize, s: Reader, out: &mut [u32]) -> Reader
-    requires { ⌜ (length (now out) ≡ 64) × Sound s × (s .len ≤ from) × (s .k ≤ 36) × (from ≤ length (now e)) × (length (now e) ≤ 63) ⌝ }
-    ensures { λ r. ⌜ Sound r × (read r (now (out .exit)) ≡ Decoding.octets (drop from (now (e .entry))) (read s (now (out .entry)))) ⌝ }
+    requires { ⌜ (length (now out) ≡ 64) × Bounded s × (s .len ≤ from) × (s .k ≤ 36) × (from ≤ length (now e)) × (length (now e) ≤ 63) ⌝ }
+    ensures { λ r. ⌜ Bounded r × (read r (now (out .exit)) ≡ Decoding.octets (drop from (now (e .entry))) (read s (now (out .entry)))) ⌝ }
 {
     let mut t = s;
     let mut j = from;

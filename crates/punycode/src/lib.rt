@@ -10,7 +10,7 @@ mod label;
 
 ghost use mathlib.Core.List.{[]};
 ghost use mathlib.Core.Path.{_≡_};
-ghost use Rattle.punycode.specs.Calls.{answered, Encodes, Decodes};
+ghost use Rattle.punycode.specs.Calls.{coderAnswers, Encodes, decoderAnswers, Decodes};
 
 // The room that a call asks for, in octets or in code points.
 const ROOM: usize = 63;
@@ -24,17 +24,24 @@ const LONG: u8 = 14;
 
 const NOT_ENCODED: u8 = 15;
 
-// The number, the place, which is always 0, and how many entries of the buffer are written.
-pub struct Coded {
+// What the coder answers: the number, the place, which is always 0, and how many octets are written.
+pub struct Encoded {
     pub number: u8,
     pub place: usize,
     pub length: usize,
 }
 
-fn refused(number: u8) -> Coded
-    ensures { λ r. ⌜ r ≡ answered number [] ⌝ }
+// What the decoder answers: the same, of code points.
+pub struct Decoded {
+    pub number: u8,
+    pub place: usize,
+    pub length: usize,
+}
+
+fn refused_label(number: u8) -> Encoded
+    ensures { λ r. ⌜ r ≡ coderAnswers number [] ⌝ }
 {
-    Coded {
+    Encoded {
         number: number,
         place: 0,
         length: 0,
@@ -42,43 +49,53 @@ fn refused(number: u8) -> Coded
 }
 
 // The encoding of a label.
-pub fn encode(label: &[u32], out: &mut [u8]) -> Coded
+pub fn encode(label: &[u32], out: &mut [u8]) -> Encoded
     ensures { λ r. ⌜ Encodes (now (label .entry)) (now (out .entry)) (now (out .exit)) r ⌝ }
 {
     if out.len() < ROOM {
-        return refused(SHORT);
+        return refused_label(SHORT);
     }
     if label.len() > ROOM {
-        return refused(UNFIT);
+        return refused_label(UNFIT);
     }
     let mut text = [0u8; 80];
     let coded = coder::ace(label, &mut text);
     let n = coded.at;
     let ok = coded.ok;
     if !ok {
-        return refused(UNFIT);
+        return refused_label(UNFIT);
     }
     if n > ROOM {
-        return refused(LONG);
+        return refused_label(LONG);
     }
     bytes::copy(&text[0..n], out);
-    Coded {
+    Encoded {
         number: 0,
         place: 0,
         length: n,
     }
 }
 
+fn refused_octets(number: u8) -> Decoded
+    ensures { λ r. ⌜ r ≡ decoderAnswers number [] ⌝ }
+{
+    Decoded {
+        number: number,
+        place: 0,
+        length: 0,
+    }
+}
+
 // The label that octets encode.
-pub fn decode(octets: &[u8], out: &mut [u32]) -> Coded
+pub fn decode(octets: &[u8], out: &mut [u32]) -> Decoded
     ensures { λ r. ⌜ Decodes (now (octets .entry)) (now (out .entry)) (now (out .exit)) r ⌝ }
 {
     if out.len() < ROOM {
-        return refused(SHORT);
+        return refused_octets(SHORT);
     }
     let n = octets.len();
     if n > ROOM {
-        return refused(NOT_ENCODED);
+        return refused_octets(NOT_ENCODED);
     }
     let mut low = [0u8; 64];
     decoder::lowers(octets, &mut low);
@@ -87,10 +104,10 @@ pub fn decode(octets: &[u8], out: &mut [u32]) -> Coded
     let len = found.len;
     let ok = found.ok;
     if !ok {
-        return refused(NOT_ENCODED);
+        return refused_octets(NOT_ENCODED);
     }
     lists::copy(&text[0..len], out);
-    Coded {
+    Decoded {
         number: 0,
         place: 0,
         length: len,

@@ -14,7 +14,7 @@ use Rattle.characters.specs.Characters.{asciiSet}
 use Rattle.characters.specs.Compose.{voiced, repeats, halfVoiced, composed}
 use Rattle.characters.proofs.Pairs.{of-base, composed-kana}
 use Rattle.rules.specs.Labels.{period, labels}
-use Rattle.rules.specs.Permits.{Permits, Laws, labelChar, middle}
+use Rattle.rules.specs.Permits.{Permits, jaChar, Laws, labelChar, middle}
 use Rattle.rules.specs.Rules.{middleDot, ordinary, jp, Sound}
 use Rattle.rules.specs.Grammar.{Derives, general, prefecture, listed}
 use Rattle.rules.specs.Hopeful.{begins, leftmost, grows, settled, HopeLaws}
@@ -22,7 +22,7 @@ use Rattle.rules.specs.declared.Class.{Class}
 use Rattle.rules.proofs.Cuts.{labels-cut, labels-one}
 use Rattle.rules.proofs.Sound.{ascii-range, label-sound, sound-label}
 use Rattle.rules.proofs.Derived.{of-middle, no-period}
-use Rattle.rules.proofs.Growing.{endJp, dotJp, is-begins, clear-leftmost, one-more, exchanged}
+use Rattle.rules.proofs.Growing.{endJp, dotJp, is-begins, meets-leftmost, one-more, exchanged}
 
 -- ---- lists
 
@@ -62,9 +62,9 @@ settled-no-kana c e =
     (λ lo hi. either (asciiSet c) _ e (λ p. let h = ascii-range c p in omega arith) (λ p. let h = in-range 0x4E00 0x9FA0 c p in omega arith))
 
 -- a base is none of the three signs
-base-plain : (b m : ℕ) → (composed b m ≡ 0 → ⊥) → not (eqb b 0x3006 || (eqb b 0x30FC || middleDot b)) ≡ true
+base-no-exception : (b m : ℕ) → (composed b m ≡ 0 → ⊥) → not (eqb b 0x3006 || (eqb b 0x30FC || middleDot b)) ≡ true
 unfolding voiced repeats halfVoiced allOf middleDot
-base-plain b m n = of-base (λ (v : ℕ). not (eqb v 0x3006 || (eqb v 0x30FC || eqb v 0x30FB))) b m refl refl refl refl n
+base-no-exception b m n = of-base (λ (v : ℕ). not (eqb v 0x3006 || (eqb v 0x30FC || eqb v 0x30FB))) b m refl refl refl refl n
 
 module _ (P : Permits) (H : HopeLaws P) where
   abbrev L : Laws P
@@ -81,21 +81,21 @@ module _ (P : Permits) (H : HopeLaws P) where
   no-kana-jp = refl
 
   -- what is composed, where a label may hold it, is Japanese
-  composed-japanese : (b m : ℕ) → (composed b m ≡ 0 → ⊥) → labelChar P (composed b m) ≡ true → P .japanese (composed b m) ≡ true
+  composed-japanese : (b m : ℕ) → (composed b m ≡ 0 → ⊥) → labelChar P (composed b m) ≡ true → jaChar P (composed b m) ≡ true
   unfolding labelChar
   composed-japanese b m n e =
       let k = in-range 0x3041 0x30FE (composed b m) (composed-kana b m n) in
-      either (P .japanese (composed b m)) _ e (λ p. p) (λ p. absurd (let h = ascii-range (composed b m) p in omega arith))
+      either (jaChar P (composed b m)) _ e (λ p. p) (λ p. absurd (let h = ascii-range (composed b m) p in omega arith))
 
   base-ordinary : (b m : ℕ) → (composed b m ≡ 0 → ⊥) → ordinary P b ≡ true
   unfolding ordinary
-  base-ordinary b m n = rw (H .bases b m n) (base-plain b m n)
+  base-ordinary b m n = rw (H .bases b m n) (base-no-exception b m n)
 
   module _ (f : List ℕ) (b m : ℕ) (n : composed b m ≡ 0 → ⊥) where
-    parted : (l s : List ℕ) → l ≡ f ++ composed b m ∷ s → Sound P l → Sound P (f ++ b ∷ s)
+    parted : (l s : List ℕ) → l ≡ f ++ composed b m ∷ s → Sound P 3 l → Sound P 3 (f ++ b ∷ s)
     unfolding allOf
     parted l s e S =
-        let T : Sound P (f ++ composed b m ∷ s) = rw e at S in
+        let T : Sound P 3 (f ++ composed b m ∷ s) = rw e at S in
         let w = both (allOf (labelChar P) f) _ (sym (all-append (labelChar P) f (composed b m ∷ s)) ∙ T .chars) .1 in
         exchanged P L f b (composed b m) s (H .bases b m n) (base-ordinary b m n)
         (composed-japanese b m n (both (labelChar P (composed b m)) _ w .0)) T
@@ -124,7 +124,7 @@ module _ (P : Permits) (H : HopeLaws P) where
   unfolding jp anyOf period
   jp-begun g r e = (rw (← e) (is-begins g r), begun-one g r endJp (sym e) refl)
 
-  module _ {l : List ℕ} (S : Sound P l) where
+  module _ {l : List ℕ} (S : Sound P 3 l) where
     in-first : (f s : List ℕ) → l ≡ f ++ s → Grows f
     unfolding grows
     in-first f s e = rw (begun-one f s l e (no-period P L l (S .chars))) (one-more P L (H .tried) f s (rw e at S))
@@ -133,7 +133,7 @@ module _ (P : Permits) (H : HopeLaws P) where
     past-first g e h = rw (labels-cut l g (no-period P L l (S .chars)), e) h
 
     left-is : leftmost P l ≡ true
-    left-is = clear-leftmost P l (S .clear)
+    left-is = meets-leftmost P l (S .meets)
 
     in-jp : (g r : List ℕ) → g ++ r ≡ endJp → Grows (l ++ 0x2E ∷ g)
     unfolding grows

@@ -10,12 +10,11 @@ use native.Mathlib.Omega.{arith}
 use lib.ListN.{length, take, drop, length-drop}
 use lib.Seq.{drop-drop}
 use borrow.Author.Tests.{eqb-true, not-false}
-use Rattle.lists.specs.Tests.{pick, allOf, anyOf, firstOf}
-use Rattle.lists.proofs.Laws.{neither}
-use Rattle.rules.specs.Labels.{period, onto, labels, join}
+use Rattle.lists.specs.Tests.{pick, allOf, anyOf, indexOf}
+use Rattle.lists.proofs.Laws.{neither, index-bound}
+use Rattle.rules.specs.Labels.{period, intoFirst, labels, join}
 use Rattle.rules.specs.Permits.{Permits, labelChar}
 use Rattle.rules.specs.Rules.{unfit}
-use Rattle.rules.proofs.Views.{first-bound}
 
 -- ---- a text and its labels, of which there is always one
 
@@ -29,8 +28,8 @@ cut-on none = cut none
 cut-on (cut d) = cut (cut d)
 cut-on (held p d) = cut (held p d)
 
-held-on : {x : ℕ} {xs : List ℕ} {ls : List (List ℕ)} → period x ≡ false → Labelled xs ls → Labelled (x ∷ xs) (onto x ls)
-unfolding onto
+held-on : {x : ℕ} {xs : List ℕ} {ls : List (List ℕ)} → period x ≡ false → Labelled xs ls → Labelled (x ∷ xs) (intoFirst x ls)
+unfolding intoFirst
 held-on p none = held p none
 held-on p (cut d) = held p (cut d)
 held-on p (held q d) = held p (held q d)
@@ -40,7 +39,7 @@ unfolding labels period
 labelled [] = none
 labelled (x ∷ xs) = go (period x) refl (labelled xs)
   where
-    go : (b : Bool) → period x ≡ b → Labelled xs (labels xs) → Labelled (x ∷ xs) (pick b ([] ∷ labels xs) (onto x (labels xs)))
+    go : (b : Bool) → period x ≡ b → Labelled xs (labels xs) → Labelled (x ∷ xs) (pick b ([] ∷ labels xs) (intoFirst x (labels xs)))
     go true p d = rw (eqb-true x 0x2E p) (cut-on d)
     go false p d = held-on p d
 
@@ -89,12 +88,12 @@ module _ (P : Permits) where
 -- ---- the labels of a label alone, and of a label, a period and a rest
 
 pub labels-one : (l : List ℕ) → anyOf period l ≡ false → labels l ≡ l ∷ []
-unfolding labels anyOf onto
+unfolding labels anyOf intoFirst
 labels-one [] e = refl
 labels-one (x ∷ xs) e = let n = neither (period x) (anyOf period xs) e in rw (n .0, labels-one xs (n .1))
 
 pub labels-cut : (l r : List ℕ) → anyOf period l ≡ false → labels (l ++ 0x2E ∷ r) ≡ l ∷ labels r
-unfolding labels anyOf onto period
+unfolding labels anyOf intoFirst period
 labels-cut [] r e = refl
 labels-cut (x ∷ xs) r e =
     let h = neither (period x) (anyOf period xs) e in
@@ -102,34 +101,34 @@ labels-cut (x ∷ xs) r e =
 
 -- ---- the first label ends at the first period
 
-pub last-label : (t : List ℕ) → length t ≤ firstOf period t → labels t ≡ t ∷ []
-unfolding firstOf labels onto
+pub last-label : (t : List ℕ) → length t ≤ indexOf period t → labels t ≡ t ∷ []
+unfolding indexOf labels intoFirst
 last-label [] e = refl
 last-label (x ∷ xs) e = go (period x) e (last-label xs)
   where
-    go : (b : Bool) → suc (length xs) ≤ pick b 0 (suc (firstOf period xs)) → (length xs ≤ firstOf period xs → labels xs ≡ xs ∷ [])
-        → pick b ([] ∷ labels xs) (onto x (labels xs)) ≡ (x ∷ xs) ∷ []
+    go : (b : Bool) → suc (length xs) ≤ pick b 0 (suc (indexOf period xs)) → (length xs ≤ indexOf period xs → labels xs ≡ xs ∷ [])
+        → pick b ([] ∷ labels xs) (intoFirst x (labels xs)) ≡ (x ∷ xs) ∷ []
     go true e on = absurd (omega arith)
     go false e on = rw (on (omega arith))
 
-pub first-label : (t : List ℕ) → firstOf period t < length t
-    → labels t ≡ take (firstOf period t) t ∷ labels (drop (firstOf period t + 1) t)
-unfolding firstOf labels onto
+pub first-label : (t : List ℕ) → indexOf period t < length t
+    → labels t ≡ take (indexOf period t) t ∷ labels (drop (indexOf period t + 1) t)
+unfolding indexOf labels intoFirst
 first-label [] h = absurd (omega arith)
 first-label (x ∷ xs) h = go (period x) h (first-label xs)
   where
-    go : (b : Bool) → pick b 0 (suc (firstOf period xs)) < suc (length xs)
-        → (firstOf period xs < length xs → labels xs ≡ take (firstOf period xs) xs ∷ labels (drop (firstOf period xs + 1) xs))
-        → pick b ([] ∷ labels xs) (onto x (labels xs))
-        ≡ take (pick b 0 (suc (firstOf period xs))) (x ∷ xs) ∷ labels (drop (pick b 0 (suc (firstOf period xs)) + 1) (x ∷ xs))
+    go : (b : Bool) → pick b 0 (suc (indexOf period xs)) < suc (length xs)
+        → (indexOf period xs < length xs → labels xs ≡ take (indexOf period xs) xs ∷ labels (drop (indexOf period xs + 1) xs))
+        → pick b ([] ∷ labels xs) (intoFirst x (labels xs))
+        ≡ take (pick b 0 (suc (indexOf period xs))) (x ∷ xs) ∷ labels (drop (pick b 0 (suc (indexOf period xs)) + 1) (x ∷ xs))
     go true h on = refl
-    go false h on = rw (on (omega arith), add-one (firstOf period xs), add-one (suc (firstOf period xs)))
+    go false h on = rw (on (omega arith), add-one (indexOf period xs), add-one (suc (indexOf period xs)))
 
 -- ---- the same from index i on, where the search for a period came to e
 
-module _ (t : List ℕ) (i e : ℕ) (h : i ≤ length t) (s : e ≡ i + firstOf period (drop i t)) where
+module _ (t : List ℕ) (i e : ℕ) (h : i ≤ length t) (s : e ≡ i + indexOf period (drop i t)) where
   pub ended : (i ≤ e) × (e ≤ length t)
-  ended = omega (arith, first-bound period (drop i t), length-drop i t)
+  ended = omega (arith, index-bound period (drop i t), length-drop i t)
 
   pub last-from : length t ≤ e → labels (drop i t) ≡ drop i t ∷ []
   last-from k = last-label (drop i t) (omega (arith, length-drop i t))
@@ -137,7 +136,7 @@ module _ (t : List ℕ) (i e : ℕ) (h : i ≤ length t) (s : e ≡ i + firstOf 
   module _ (k : e < length t) where
     pub first-from : labels (drop i t) ≡ take (e - i) (drop i t) ∷ labels (drop (e + 1) t)
     first-from =
-        let n : firstOf period (drop i t) ≡ e - i = omega arith in
+        let n : indexOf period (drop i t) ≡ e - i = omega arith in
         let m : i + (e - i + 1) ≡ e + 1 = omega arith in
         let d : drop (e - i + 1) (drop i t) ≡ drop (e + 1) t = drop-drop (e - i + 1) i t ∙ ap (λ (j : ℕ). drop j t) m in
         first-label (drop i t) (omega (arith, length-drop i t)) ∙ rw (n, d)

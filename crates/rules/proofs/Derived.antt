@@ -8,29 +8,19 @@ use mathlib.Core.Logic.{_⊎_, inl, inr, ⊎-elim}
 use Prim.Native.Nat.{ℕ, _-_, _≤_}
 use native.Mathlib.Omega.{arith}
 use lib.Dec.{eqb, leb}
-use lib.ListN.{length, getD, length-append}
+use lib.ListN.{length, length-append}
 use borrow.Author.Tests.{eqb-true, ltb-false, leb-true, not-true, not-false}
 use Rattle.lists.specs.Tests.{pick, within, allOf, anyOf}
-use Rattle.lists.specs.Rows.{Row, Clear}
 use Rattle.lists.proofs.Laws.{both, neither, or-right, refuted, any-append, all-none, in-lists, same-is, same-refl}
 use Rattle.characters.specs.Characters.{alnum, hyphen, asciiSet}
-use Rattle.rules.specs.Labels.{period, onto, labels, join}
-use Rattle.rules.specs.Permits.{Permits, Laws, labelChar, middle, isEmpty}
-use Rattle.rules.specs.Rules.{unfit, isJapanese, long, labelRows, jp, nameRows, classOf}
+use Rattle.rules.specs.Labels.{period, intoFirst, labels, join}
+use Rattle.rules.specs.Permits.{Permits, jaChar, ShortMiddles, Laws, labelChar, middle, isEmpty}
+use Rattle.rules.specs.Rules.{unfit, isJapanese, long, Meets, jp, classOf}
 use Rattle.rules.specs.Grammar.{label, Derives, general, prefecture, listed}
 use Rattle.rules.specs.declared.Class.{Class}
+use Rattle.rules.proofs.ByName.{Passed}
 use Rattle.rules.proofs.Cuts.{labels-cut}
 use Rattle.rules.proofs.Sound.{low, label-sound, sound-label}
-
--- ---- one table after another
-
-split-clear : (rs ss : List Row) → Clear (rs ++ ss) → Clear rs × Clear ss
-split-clear [] ss c = (tt, c)
-split-clear (r ∷ rs) ss c = let k = split-clear rs ss (c .1) in ((c .0, k .0), k .1)
-
-join-clear : (rs ss : List Row) → Clear rs → Clear ss → Clear (rs ++ ss)
-join-clear [] ss c d = d
-join-clear (r ∷ rs) ss c d = (c .0, join-clear rs ss (c .1) d)
 
 -- ---- a label to which none of 7 to 10 applies has at most 63 characters
 
@@ -38,9 +28,8 @@ pub left-size : (P : Permits) (l : List ℕ) → long P l ≡ false → length l
 unfolding long
 left-size P l e = ltb-false (pick (isJapanese P l) 15 63) (length l) e
 
-pub clear-length : (P : Permits) (l : List ℕ) → Clear (labelRows P 3 l 0) → length l ≤ 63
-unfolding labelRows
-clear-length P l c = go (isJapanese P l) (left-size P l (c .1 .1 .0))
+pub meets-length : (P : Permits) (least : ℕ) (l : List ℕ) → Meets P least l → length l ≤ 63
+meets-length P least l m = go (isJapanese P l) (left-size P l (m .few))
   where
     go : (b : Bool) → length l ≤ pick b 15 63 → length l ≤ 63
     go true h = omega arith
@@ -52,71 +41,48 @@ pub of-middle : (P : Permits) (f : List ℕ → Bool) (l : List ℕ) → allOf f
 unfolding middle
 of-middle P f l w e = in-lists f l (P .middles) w e
 
-pub middle-length : (P : Permits) → allOf (λ (l : List ℕ). leb (length l) 15) (P .middles) ≡ true → (l : List ℕ) → middle P l ≡ true → length l ≤ 15
+pub middle-length : (P : Permits) → ShortMiddles P → (l : List ℕ) → middle P l ≡ true → length l ≤ 15
 middle-length P w l e = leb-true (length l) 15 (of-middle P (λ (l : List ℕ). leb (length l) 15) l w e)
 
 -- ---- two labels or three
 
-two-or-three : (n : ℕ) (b : Bool) → not (eqb n 2 || (b && eqb n 3)) ≡ false → (n ≡ 2) ⊎ (n ≡ 3)
-two-or-three n b e = go (eqb n 2) refl (not-false _ e)
+pub two-or-three : (n : ℕ) (b : Bool) → eqb n 2 || (b && eqb n 3) ≡ true → (n ≡ 2) ⊎ (n ≡ 3)
+two-or-three n b e = go (eqb n 2) refl e
   where
     go : (t : Bool) → eqb n 2 ≡ t → t || (b && eqb n 3) ≡ true → (n ≡ 2) ⊎ (n ≡ 3)
     go true p q = inl (eqb-true n 2 p)
     go false p q = inr (eqb-true n 3 (both b (eqb n 3) q .1))
-
--- what the rules have let pass
-record Passed (P : Permits) (ls : List (List ℕ)) : Type 0 where
-  count : (length ls ≡ 2) ⊎ (length ls ≡ 3)
-  filled : anyOf isEmpty ls ≡ false
-  left : Clear (labelRows P 3 (getD ls 0 []) 0)
-  last : getD ls (length ls - 1) [] ≡ jp
-  mid : eqb (length ls) 3 && not (middle P (getD ls 1 [])) ≡ false
-
-passed : (P : Permits) (ls : List (List ℕ)) → Clear (nameRows P ls) → Passed P ls
-unfolding nameRows
-passed P ls c =
-    let k = split-clear (labelRows P 3 (getD ls 0 []) 0) _ (c .1 .1) in
-    record {
-      count = two-or-three (length ls) (P .three) (c .0);
-      filled = c .1 .0;
-      left = k .0;
-      last = same-is _ jp (not-false _ (k .1 .0));
-      mid = k .1 .1 .0;
-    }
 
 module _ (P : Permits) (L : Laws P) where
   -- ---- from the rules to the grammar
 
   left-label : (a : List ℕ) (ls : List (List ℕ)) → allOf (allOf (labelChar P)) (a ∷ ls) ≡ true → Passed P (a ∷ ls) → label P a
   unfolding allOf anyOf
-  left-label a ls w C = sound-label P L (record { chars = both _ _ w .0; filled = neither (isEmpty a) _ (C .filled) .0; clear = C .left })
+  left-label a ls w C = sound-label P L (record { chars = both _ _ w .0; filled = neither (isEmpty a) _ (C .filled) .0; meets = C .left })
 
-  derived : (ls : List (List ℕ)) → allOf (allOf (labelChar P)) ls ≡ true → Passed P ls → Derives P (classOf ls) (join ls)
+  pub passed-derives : (ls : List (List ℕ)) → allOf (allOf (labelChar P)) ls ≡ true → Passed P ls → Derives P (classOf ls) (join ls)
   unfolding join jp classOf
-  derived [] w C = absurd (⊎-elim (λ e. omega arith) (λ e. omega arith) (C .count))
-  derived (a ∷ []) w C = absurd (⊎-elim (λ e. omega arith) (λ e. omega arith) (C .count))
-  derived (a ∷ b ∷ []) w C =
-      rw (C .last) (general (left-label a _ w C))
-  derived (a ∷ b ∷ c ∷ []) w C =
-      rw (C .last) (prefecture (left-label a _ w C) (listed (not-false (middle P b) (C .mid))))
-  derived (a ∷ b ∷ c ∷ d ∷ ls) w C = absurd (⊎-elim (λ e. omega arith) (λ e. omega arith) (C .count))
-
-  pub clear-derives : (ls : List (List ℕ)) → allOf (allOf (labelChar P)) ls ≡ true → Clear (nameRows P ls) → Derives P (classOf ls) (join ls)
-  clear-derives ls w c = derived ls w (passed P ls c)
+  passed-derives [] w C = absurd (⊎-elim (λ e. omega arith) (λ e. omega arith) (two-or-three 0 (P .three) (C .count)))
+  passed-derives (a ∷ []) w C = absurd (⊎-elim (λ e. omega arith) (λ e. omega arith) (two-or-three 1 (P .three) (C .count)))
+  passed-derives (a ∷ b ∷ []) w C = rw (same-is b jp (C .last)) (general (left-label a _ w C))
+  passed-derives (a ∷ b ∷ c ∷ []) w C =
+      rw (same-is c jp (C .last)) (prefecture (left-label a _ w C) (listed (not-false (middle P b) (C .mid))))
+  passed-derives (a ∷ b ∷ c ∷ d ∷ ls) w C =
+      absurd (⊎-elim (λ e. omega arith) (λ e. omega arith) (two-or-three (length (a ∷ b ∷ c ∷ d ∷ ls)) (P .three) (C .count)))
 
   -- ---- from the grammar to the rules
 
   -- what the rules ask of a normal form, its class, and how long it is
   pub record Name (k : Class) (t : List ℕ) : Type 0 where
     pub fit : anyOf (unfit P) t ≡ false
-    pub clear : Clear (nameRows P (labels t))
+    pub passed : Passed P (labels t)
     pub class : classOf (labels t) ≡ k
     pub some : 1 ≤ length t
     pub few : length t ≤ 127
 
   label-no-period : (c : ℕ) → labelChar P c ≡ true → period c ≡ false
   unfolding labelChar period asciiSet alnum within hyphen
-  label-no-period c e = refuted (eqb c 0x2E) (λ p. false≢true (rw (eqb-true c 0x2E p, low P L 0x2E (omega arith)) at e))
+  label-no-period c e = refuted (eqb c 0x2E) (λ p. false≢true (rw (eqb-true c 0x2E p, low P (L .stretch) 0x2E (omega arith)) at e))
 
   pub no-period : (l : List ℕ) → allOf (labelChar P) l ≡ true → anyOf period l ≡ false
   no-period l w = all-none (labelChar P) period label-no-period l w
@@ -131,21 +97,21 @@ module _ (P : Permits) (L : Laws P) where
 
   jp-fits : anyOf (unfit P) (0x6A ∷ 0x70 ∷ []) ≡ false
   unfolding anyOf unfit period labelChar asciiSet alnum within
-  jp-fits = rw (or-right (P .japanese 0x6A) true refl, or-right (P .japanese 0x70) true refl)
+  jp-fits = rw (or-right (jaChar P 0x6A) true refl, or-right (jaChar P 0x70) true refl)
 
   labels-jp : labels (0x6A ∷ 0x70 ∷ []) ≡ (0x6A ∷ 0x70 ∷ []) ∷ []
-  unfolding labels onto period
+  unfolding labels intoFirst period
   labels-jp = refl
 
   pub named : {t : List ℕ} {k : Class} → Derives P k t → Name k t
-  unfolding nameRows anyOf isEmpty jp classOf
+  unfolding anyOf isEmpty jp classOf
   named (general {l = l} d) =
       let S = label-sound P L d in
       let e : labels (l ++ 0x2E ∷ 0x6A ∷ 0x70 ∷ []) ≡ l ∷ (0x6A ∷ 0x70 ∷ []) ∷ [] = labels-cut l _ (no-period l (S .chars)) ∙ rw labels-jp in
-      let n = clear-length P l (S .clear) in
+      let n = meets-length P 3 l (S .meets) in
       record {
         fit = fits l _ (S .chars) jp-fits;
-        clear = rw e (refl, (rw (S .filled), join-clear (labelRows P 3 l 0) _ (S .clear) (ap not (same-refl jp), (refl, tt))));
+        passed = rw e (record { count = refl; filled = rw (S .filled); left = S .meets; last = same-refl jp; mid = refl });
         class = rw e;
         some = omega (arith, length-append l (0x2E ∷ 0x6A ∷ 0x70 ∷ []));
         few = omega (arith, length-append l (0x2E ∷ 0x6A ∷ 0x70 ∷ []));
@@ -155,13 +121,19 @@ module _ (P : Permits) (L : Laws P) where
       let w = of-middle P (allOf (labelChar P)) m (L .middle-chars) p in
       let e : labels (l ++ 0x2E ∷ (m ++ 0x2E ∷ 0x6A ∷ 0x70 ∷ [])) ≡ l ∷ m ∷ (0x6A ∷ 0x70 ∷ []) ∷ [] =
       labels-cut l _ (no-period l (S .chars)) ∙ rw (labels-cut m (0x6A ∷ 0x70 ∷ []) (no-period m w), labels-jp) in
-      let n = clear-length P l (S .clear) in
+      let n = meets-length P 3 l (S .meets) in
       let i = middle-length P (L .middle-short) m p in
       let f = of-middle P (λ (l : List ℕ). not (isEmpty l)) m (L .middle-filled) p in
       let o = length-append m (0x2E ∷ 0x6A ∷ 0x70 ∷ []) in
       record {
         fit = fits l _ (S .chars) (fits m _ w jp-fits);
-        clear = rw e (rw (L .middle-three m p), (rw (S .filled, not-true (isEmpty m) f), join-clear (labelRows P 3 l 0) _ (S .clear) (ap not (same-refl jp), (rw p, tt))));
+        passed = rw e (record {
+          count = rw (L .middle-three m p);
+          filled = rw (S .filled, not-true (isEmpty m) f);
+          left = S .meets;
+          last = same-refl jp;
+          mid = rw p;
+        });
         class = rw e;
         some = omega (arith, length-append l (0x2E ∷ (m ++ 0x2E ∷ 0x6A ∷ 0x70 ∷ [])));
         few = omega (arith, length-append l (0x2E ∷ (m ++ 0x2E ∷ 0x6A ∷ 0x70 ∷ [])));

@@ -9,21 +9,23 @@ use Prim.Native.Nat.{ℕ, _≤_}
 use native.Mathlib.Omega.{arith}
 use lib.Dec.{eqb}
 use lib.ListN.{length}
-use borrow.Author.Tests.{eqb-false, eqb-true, ne-eqb, ltb-false, le-ltb}
-use Rattle.lists.specs.Tests.{pick, allOf}
-use Rattle.lists.specs.Rows.{Answer, Clear}
-use Rattle.lists.proofs.Tables.{clear, refusing, accepted-clear}
+use borrow.Author.Tests.{eqb-true}
+use Rattle.lists.specs.Tests.{pick}
+use Rattle.lists.specs.Rows.{Clear}
+use Rattle.lists.specs.declared.Answer.{Answer}
+use Rattle.lists.proofs.Tables.{clear}
 use Rattle.normal.proofs.Laws.{not-twice}
 use Rattle.normal.specs.Normal.{normalForm, normalPlaced, replacedFrom, compose}
 use Rattle.rules.specs.Labels.{labels}
 use Rattle.rules.specs.Permits.{Permits, Laws}
-use Rattle.rules.specs.Rules.{labelRows, nameRows, textRows, classOf, verdict, rules, accepted, Formed}
+use Rattle.rules.specs.Rules.{textRows, classOf, verdict, rules, accepted, Formed}
 use Rattle.rules.specs.Grammar.{Derives, Granted}
 use Rattle.rules.specs.declared.Class.{Class}
 use Rattle.rules.specs.declared.Class.the-variants.{None, General, Prefecture}
 use Rattle.rules.specs.declared.Verdict.{Verdict}
+use Rattle.rules.proofs.ByName.{clear-text, text-clear, text-cleared}
 use Rattle.rules.proofs.Cuts.{join-labels, labels-fit}
-use Rattle.rules.proofs.Derived.{clear-derives, named}
+use Rattle.rules.proofs.Derived.{passed-derives, named}
 
 -- ---- what is answered, for any edition
 
@@ -32,21 +34,14 @@ module _ (P : Permits) (text : List ℕ) where
   abbrev pub class : Class
   class = classOf (labels (normalForm text))
 
-  all-refuse : refusing (textRows P text) ≡ true
-  unfolding textRows nameRows labelRows refusing allOf
-  all-refuse = refl
-
-  number-clear : rules P text .number ≡ 0 → Clear (textRows P text)
-  unfolding rules verdict
-  number-clear e = accepted-clear (textRows P text) all-refuse e
-
   clear-accepted : Clear (textRows P text) → rules P text ≡ accepted class
   unfolding rules verdict
   clear-accepted c = ap (λ (a : Answer). verdict a (labels (normalForm text))) (clear (textRows P text) c)
 
   -- number 0 leaves only the class open, and every other number has none
   pub number-accepted : rules P text .number ≡ 0 → rules P text ≡ accepted class
-  number-accepted e = clear-accepted (number-clear e)
+  unfolding rules verdict
+  number-accepted e = clear-accepted (text-cleared P text e)
 
   class-some : class ≡ None → ⊥
   unfolding classOf
@@ -81,22 +76,17 @@ not-both P text p q =
 
 module _ (P : Permits) (L : Laws P) where
   accepted-granted : (text : List ℕ) (k : Class) → rules P text ≡ accepted k → Granted P k text
-  unfolding textRows
+  unfolding rules verdict
   accepted-granted text k e =
-      let c = number-clear P text (ap (λ (v : Verdict). v .number) e) in
-      let n = eqb-false (length text) 0 (c .0) in
-      let d = clear-derives P L (labels (normalForm text)) (labels-fit P (normalForm text) (c .1 .1 .0)) (c .1 .1 .1) in
-      record {
-        some = omega arith;
-        few = ltb-false 256 (length text) (c .1 .0);
-        name = rw (accepted-class P text k e, join-labels (normalForm text)) at d;
-      }
+      let c = clear-text P text (text-cleared P text (ap (λ (v : Verdict). v .number) e)) in
+      let F = c .0 in
+      let d = passed-derives P L (labels (normalForm text)) (labels-fit P (normalForm text) (F .fit)) (c .1) in
+      record { some = F .some; few = F .few; name = rw (accepted-class P text k e, join-labels (normalForm text)) at d }
 
   granted-accepted : (text : List ℕ) (k : Class) → Granted P k text → rules P text ≡ accepted k
-  unfolding textRows
   granted-accepted text k G =
       let N = named P L (G .name) in
-      clear-accepted P text (ne-eqb (length text) 0 (omega arith), (le-ltb 256 (length text) (G .few), (N .fit, N .clear))) ∙ ap accepted (N .class)
+      clear-accepted P text (text-clear P text (record { some = G .some; few = G .few; fit = N .fit }) (N .passed)) ∙ ap accepted (N .class)
 
   pub accepted-exactly : (text : List ℕ) (k : Class) → (rules P text ≡ accepted k) ↔ Granted P k text
   accepted-exactly text k = (accepted-granted text k, granted-accepted text k)

@@ -13,7 +13,7 @@ use Rattle.characters.specs.Replace.{ranges, rangeIn, isHalf, replaceIn, replac
 use Rattle.characters.proofs.Classes.{stays, ascii-stays}
 use Rattle.normal.proofs.Unchanged.{unchanged, unchanged-by}
 use Rattle.rules.specs.Labels.{join}
-use Rattle.rules.specs.Permits.{Permits, Laws, labelChar, middle}
+use Rattle.rules.specs.Permits.{Permits, jaChar, Laws, labelChar, middle}
 use Rattle.rules.specs.Rules.{jp, Sound}
 use Rattle.rules.specs.Grammar.{Derives, general, prefecture, listed}
 use Rattle.rules.specs.Hopeful.{begins, leftmost, filler, tries, grows, settled, HopeLaws}
@@ -53,7 +53,7 @@ module _ (P : Permits) (H : HopeLaws P) where
   pub record Grown (t : List ℕ) : Type 0 where
     pub more : List ℕ
     pub kind : Class
-    pub plain : allOf unchanged more ≡ true
+    pub stays : allOf unchanged more ≡ true
     pub derives : Derives P kind (t ++ more)
 
   module _ (l : List ℕ) (w : allOf (labelChar P) l ≡ true) where
@@ -63,7 +63,7 @@ module _ (P : Permits) (H : HopeLaws P) where
     first-on r v u e = record {
       more = r ++ dotJp;
       kind = General;
-      plain = unchanged-jp r u;
+      stays = unchanged-jp r u;
       derives =
           rw (← append-assoc l r dotJp)
           (general (sound-label P L (leftmost-sound P (l ++ r) (all-append (labelChar P) l r ∙ rw (w, v)) e)));
@@ -77,13 +77,13 @@ module _ (P : Permits) (H : HopeLaws P) where
             → a || (b || (c || false)) ≡ true → Grown l
         go true p b q c s h = first-on [] refl refl p
         go false p true q c s h = first-on (filler ∷ []) (rw (H .tried)) refl q
-        go false p false q true s h = first-on (0x61 ∷ []) (rw (or-right (P .japanese 0x61) true refl)) refl s
+        go false p false q true s h = first-on (0x61 ∷ []) (rw (or-right (jaChar P 0x61) true refl)) refl s
         go false p false q false s h = absurd (false≢true h)
 
     -- ---- two labels, and three
 
     module _ (S : leftmost P l ≡ true) where
-      left : Sound P l
+      left : Sound P 3 l
       left = leftmost-sound P l w S
 
       jp-on : (m : List ℕ) → begins m jp ≡ true → Grown (l ++ 0x2E ∷ m)
@@ -93,7 +93,7 @@ module _ (P : Permits) (H : HopeLaws P) where
           record {
             more = k .0;
             kind = General;
-            plain = unchanged-rest jp m (k .0) (k .1) jp-unchanged;
+            stays = unchanged-rest jp m (k .0) (k .1) jp-unchanged;
             derives = rw (append-assoc l (0x2E ∷ m) (k .0), ← k .1) (general (sound-label P L left));
           }
 
@@ -106,7 +106,7 @@ module _ (P : Permits) (H : HopeLaws P) where
           record {
             more = k .0 ++ dotJp;
             kind = Prefecture;
-            plain = unchanged-jp (k .0) (unchanged-rest (c .0) m (k .0) (k .1) u);
+            stays = unchanged-jp (k .0) (unchanged-rest (c .0) m (k .0) (k .1) u);
             derives =
                 rw (append-assoc l (0x2E ∷ m) (k .0 ++ dotJp), ← append-assoc m (k .0) dotJp, ← k .1) (prefecture (sound-label P L left) (listed p));
           }
@@ -118,7 +118,7 @@ module _ (P : Permits) (H : HopeLaws P) where
           record {
             more = k .0;
             kind = Prefecture;
-            plain = unchanged-rest jp z (k .0) (k .1) jp-unchanged;
+            stays = unchanged-rest jp z (k .0) (k .1) jp-unchanged;
             derives =
                 rw (append-assoc l (0x2E ∷ (m ++ 0x2E ∷ z)) (k .0), append-assoc m (0x2E ∷ z) (k .0), ← k .1)
                 (prefecture (sound-label P L left) (listed p));

@@ -11,7 +11,7 @@ use borrow.Author.Tests.{not-true}
 use Rattle.lists.specs.Tests.{anyOf}
 use Rattle.lists.proofs.Laws.{both, neither, refuted, clash, any-append}
 use Rattle.normal.specs.Normal.{normalForm}
-use Rattle.normal.proofs.Continued.{Continues, apart, joined, continued, continued-plain}
+use Rattle.normal.proofs.Continued.{Continues, apart, joined, continued, continued-unchanged}
 use Rattle.rules.specs.Labels.{labels}
 use Rattle.rules.specs.Permits.{Permits}
 use Rattle.rules.specs.Rules.{unfit, rules}
@@ -35,7 +35,7 @@ module _ (P : Permits) (H : HopeLaws P) where
         let form = normalForm text in
         let h = both (not (anyOf (unfit P) form)) (grows P (labels form)) e in
         let g : Grown P H form = rw (join-labels form) at (grown P H (labels form) (labels-fit P form (not-true (anyOf (unfit P) form) (h .0))) (h .1)) in
-        let d : Derives P (g .kind) (normalForm (text ++ g .more)) = rw (continued-plain text (g .more) (g .plain)) (g .derives) in
+        let d : Derives P (g .kind) (normalForm (text ++ g .more)) = rw (continued-unchanged text (g .more) (g .stays)) (g .derives) in
         (g .more, ap (λ (v : Verdict). v .number) (accepted-derives P (H .laws) (text ++ g .more) (g .kind) .1 d))
 
     derived-hopeful : {k : Class} (r : List ℕ) → Derives P k (normalForm text ++ r) → hopeful P text ≡ true

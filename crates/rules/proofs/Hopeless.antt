@@ -6,27 +6,26 @@ use mathlib.Core.Bool.{true, false, not, _||_, false≢true}
 use mathlib.Core.List.{List, [], _∷_, _++_}
 use Prim.Native.Nat.{ℕ, _≤_, _<_}
 use native.Mathlib.Omega.{arith}
-use lib.Dec.{leb}
 use lib.ListN.{length, length-append}
-use Rattle.lists.specs.Tests.{allOf, anyOf}
+use Rattle.lists.specs.Tests.{anyOf}
 use Rattle.lists.proofs.Laws.{both, either, refuted}
 use Rattle.normal.specs.Normal.{normalForm}
 use Rattle.normal.proofs.Laws.{not-twice}
 use Rattle.rules.specs.Labels.{labels, join}
-use Rattle.rules.specs.Permits.{Permits, middle}
+use Rattle.rules.specs.Permits.{Permits, ShortMiddles, middle}
 use Rattle.rules.specs.Rules.{unfit, jp}
 use Rattle.rules.specs.Hopeful.{begins, leftmost, tries, grows, hopeful}
 use Rattle.rules.proofs.Cuts.{join-labels}
-use Rattle.rules.proofs.Derived.{clear-length, middle-length}
-use Rattle.rules.proofs.Growing.{leftmost-clear, begins-is, one-of}
+use Rattle.rules.proofs.Derived.{meets-length, middle-length}
+use Rattle.rules.proofs.Growing.{leftmost-meets, begins-is, one-of}
 
 pub leftmost-length : (P : Permits) (l : List ℕ) → leftmost P l ≡ true → length l ≤ 63
-leftmost-length P l e = clear-length P l (leftmost-clear P l e)
+leftmost-length P l e = meets-length P 3 l (leftmost-meets P l e)
 
 pub begins-length : (l w : List ℕ) → begins l w ≡ true → length l ≤ length w
 begins-length l w e = let k = begins-is l w e in omega (arith, length-append l (k .0), ap length (k .1))
 
-module _ (P : Permits) (short : allOf (λ (l : List ℕ). leb (length l) 15) (P .middles) ≡ true) where
+module _ (P : Permits) (short : ShortMiddles P) where
   first-length : (l : List ℕ) → anyOf (λ (r : List ℕ). leftmost P (l ++ r)) tries ≡ true → length l ≤ 63
   first-length l e =
       let k = one-of (λ (r : List ℕ). leftmost P (l ++ r)) tries e in

@@ -22,7 +22,7 @@ pub accepted-today : (text : List ℕ) (k : Class) → (rules today text ≡ acc
 accepted-today = accepted-derives today today-laws
 
 -- the second reader says yes exactly where a leftmost label is not empty, holds only what it may, and none of 7 to 10 applies
-pub reader-today : (l : List ℕ) → (reader today l ≡ true) ↔ Sound today l
+pub reader-today : (l : List ℕ) → (reader today l ≡ true) ↔ Sound today 3 l
 reader-today = reader-agrees today today-laws
 
 -- a text is hopeful exactly where it may become a name: some continuation of it, the empty one included, is accepted

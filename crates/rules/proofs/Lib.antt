@@ -1,6 +1,7 @@
 pub mod Views
 pub mod Cuts
 pub mod Says
+pub mod ByName
 pub mod Sound
 pub mod ReaderAgrees
 pub mod Derived

@@ -2,7 +2,7 @@
 -- the whole, and its two rules part only at a label's end.
 -- Assumes nothing.
 use mathlib.Core.Path.{_≡_, refl, sym, _∙_}
-use mathlib.Core.Bool.{Bool, true, false, not, _&&_, _||_}
+use mathlib.Core.Bool.{Bool, true, false, not, _&&_, _||_, or-false, or-assoc}
 use mathlib.Core.List.{List, [], _∷_}
 use mathlib.Core.Logic.{_↔_}
 use Prim.Native.Nat.{ℕ, _+_}
@@ -12,12 +12,11 @@ use borrow.Author.Tests.{not-true}
 use Rattle.lists.specs.Tests.{pick, allOf, anyOf}
 use Rattle.lists.proofs.Laws.{both, neither}
 use Rattle.characters.specs.Characters.{hyphen}
-use Rattle.rules.specs.Permits.{Permits, Laws, labelChar, isEmpty}
-use Rattle.rules.specs.Rules.{middleDot, ordinary, isJapanese, beginsWithHyphen, endsWithHyphen, hyphenEdge, short, long, bareDot, labelRows, Sound}
+use Rattle.rules.specs.Permits.{Permits, jaChar, Laws, labelChar, isEmpty}
+use Rattle.rules.specs.Rules.{middleDot, ordinary, isJapanese, beginsWithHyphen, endsWithHyphen, hyphenEdge, short, long, bareDot, Sound}
 use Rattle.rules.specs.Grammar.{label}
 use Rattle.rules.specs.Reader.{nothing, note, skip, lengthFits, ending, afterCharacter, afterHyphen, reader}
 use Rattle.rules.specs.declared.Seen.{Seen}
-use Rattle.rules.proofs.Views.{or-false}
 use Rattle.rules.proofs.Sound.{ascii-not, ascii-no-dot, hyphen-ascii, ascii-label, label-sound, sound-label}
 
 -- all of a list noted
@@ -28,10 +27,6 @@ noteAll P s (x ∷ xs) = noteAll P (note P s x) xs
 -- what the rest of a label must be
 unfoldable goesOn : Permits → Seen → List ℕ → Bool
 goesOn P s l = allOf (labelChar P) l && (not (endsWithHyphen l) && ending (noteAll P s l))
-
-or-assoc : (a b c : Bool) → a || b || c ≡ a || (b || c)
-or-assoc true b c = refl
-or-assoc false b c = refl
 
 module _ (P : Permits) where
   count-all : (l : List ℕ) (s : Seen) → (noteAll P s l) .count ≡ s .count + length l
@@ -50,7 +45,7 @@ module _ (P : Permits) where
   unfolding ending lengthFits nothing note isJapanese short long bareDot
   end-all l =
       let n : (noteAll P nothing l) .count ≡ length l = omega (arith, count-all l nothing) in
-      let j = seen-all (λ (s : Seen). s .ja) (P .japanese) (λ s x. refl) l nothing in
+      let j = seen-all (λ (s : Seen). s .ja) (jaChar P) (λ s x. refl) l nothing in
       let d = seen-all (λ (s : Seen). s .dot) middleDot (λ s x. refl) l nothing in
       let o = seen-all (λ (s : Seen). s .ordinary) (ordinary P) (λ s x. refl) l nothing in
       rw (j, d, o, n)
@@ -118,8 +113,8 @@ module _ (P : Permits) (L : Laws P) where
 
   -- ---- yes exactly where the rules let the label be
 
-  reads-sound : (l : List ℕ) → reader P l ≡ true → Sound P l
-  unfolding goesOn labelRows hyphenEdge
+  reads-sound : (l : List ℕ) → reader P l ≡ true → Sound P 3 l
+  unfolding goesOn hyphenEdge
   reads-sound l e =
       let a = both _ _ (sym (reader-is l) ∙ e) in
       let b = both _ _ (a .1) in
@@ -130,26 +125,22 @@ module _ (P : Permits) (L : Laws P) where
       record {
         chars = c .0;
         filled = not-true (isEmpty l) (a .0);
-        clear = (
-          rw (not-true (beginsWithHyphen l) (b .0)) (not-true (endsWithHyphen l) (d .0)),
-          (
-            not-true (short P 3 l) (g .0),
-            (
-              not-true (long P l) (g .1),
-              (not-true (bareDot P l) (f .1), tt),
-            ),
-          ),
-        );
+        meets = record {
+          edge = rw (not-true (beginsWithHyphen l) (b .0)) (not-true (endsWithHyphen l) (d .0));
+          enough = not-true (short P 3 l) (g .0);
+          few = not-true (long P l) (g .1);
+          dotted = not-true (bareDot P l) (f .1);
+        };
       }
 
-  sound-reads : (l : List ℕ) → Sound P l → reader P l ≡ true
-  unfolding goesOn labelRows hyphenEdge
+  sound-reads : (l : List ℕ) → Sound P 3 l → reader P l ≡ true
+  unfolding goesOn hyphenEdge
   sound-reads l S =
-      let c = S .clear in
-      let h = neither (beginsWithHyphen l) (endsWithHyphen l) (c .0) in
-      reader-is l ∙ rw (S .filled, h .0, S .chars, h .1, end-all P l, c .1 .0, c .1 .1 .0, c .1 .1 .1 .0)
+      let m = S .meets in
+      let h = neither (beginsWithHyphen l) (endsWithHyphen l) (m .edge) in
+      reader-is l ∙ rw (S .filled, h .0, S .chars, h .1, end-all P l, m .enough, m .few, m .dotted)
 
-  pub reader-agrees : (l : List ℕ) → (reader P l ≡ true) ↔ Sound P l
+  pub reader-agrees : (l : List ℕ) → (reader P l ≡ true) ↔ Sound P 3 l
   reader-agrees l = (reads-sound l, sound-reads l)
 
   -- so it reads the grammar's labels

@@ -11,7 +11,7 @@ use borrow.Author.Tests.{eqb-true, eq-eqb}
 use Rattle.lists.specs.Tests.{within, allOf}
 use Rattle.lists.proofs.Laws.{both, or-left, or-right, inside, in-range}
 use Rattle.characters.specs.Characters.{alnum, hyphen, asciiSet}
-use Rattle.rules.specs.Permits.{Permits, labelChar}
+use Rattle.rules.specs.Permits.{Permits, jaChar, labelChar}
 use Rattle.rules.specs.Rules.{middleDot}
 use Rattle.rules.specs.Grammar as G
 
@@ -102,20 +102,20 @@ unfolding exceptional
 exceptional-says = or-says exception asciiSet G.EXCEPTION-char G.ALNUM-HYPHEN exception-says ascii-says
 
 module _ (P : Permits) where
-  pub ja-says : Says (P .japanese) (G.JA-char P)
+  pub ja-says : Says (jaChar P) (G.JA-char P)
   ja-says c = (λ e. G.ja e, back)
     where
-      back : G.JA-char P c → P .japanese c ≡ true
+      back : G.JA-char P c → jaChar P c ≡ true
       back (G.ja e) = e
 
   pub label-says : Says (labelChar P) (G.JA-or-ALNUM-HYPHEN P)
   unfolding labelChar
-  label-says = or-says (P .japanese) asciiSet (G.JA-char P) G.ALNUM-HYPHEN ja-says ascii-says
+  label-says = or-says (jaChar P) asciiSet (G.JA-char P) G.ALNUM-HYPHEN ja-says ascii-says
 
   -- what a label may begin and end with
   unfoldable pub edgeChar : ℕ → Bool
-  edgeChar c = P .japanese c || alnum c
+  edgeChar c = jaChar P c || alnum c
 
   pub edge-says : Says edgeChar (G.Or (G.JA-char P) G.ALNUM)
   unfolding edgeChar
-  edge-says = or-says (P .japanese) alnum (G.JA-char P) G.ALNUM ja-says alnum-says
+  edge-says = or-says (jaChar P) alnum (G.JA-char P) G.ALNUM ja-says alnum-says

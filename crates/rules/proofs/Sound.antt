@@ -2,7 +2,7 @@
 -- and of its characters.
 -- Assumes nothing.
 use mathlib.Core.Path.{_≡_, refl, sym, ap, _∙_}
-use mathlib.Core.Bool.{Bool, true, false, not, _&&_, _||_, false≢true, true≢false}
+use mathlib.Core.Bool.{Bool, true, false, not, _&&_, _||_, false≢true, true≢false, or-false, and-false}
 use mathlib.Core.List.{List, [], _∷_, _++_}
 use Prim.Native.Nat.{ℕ, _+_, _≤_, _<_}
 use native.Mathlib.Omega.{arith}
@@ -10,12 +10,12 @@ use lib.Dec.{eqb, ltb}
 use lib.ListN.{length}
 use borrow.Author.Tests.{eqb-true, ne-eqb, ltb-false, le-ltb, not-true}
 use Rattle.lists.specs.Tests.{within, allOf, anyOf}
-use Rattle.lists.proofs.Laws.{both, neither, or-left, or-right, refuted, clash, in-range, all-append, any-append, all-weaker, all-none}
+use Rattle.lists.proofs.Laws.{both, neither, or-left, or-right, refuted, clash, in-range, all-append, any-append, all-weaker, all-none, all-but}
 use Rattle.characters.specs.Characters.{alnum, hyphen, asciiSet}
-use Rattle.rules.specs.Permits.{Permits, Laws, labelChar, isEmpty}
-use Rattle.rules.specs.Rules.{middleDot, ordinary, isJapanese, beginsWithHyphen, endsWithHyphen, hyphenEdge, short, long, bareDot, labelRows, Sound}
+use Rattle.rules.specs.Permits.{Permits, jaChar, InStretch, Laws, labelChar, isEmpty}
+use Rattle.rules.specs.Rules.{middleDot, ordinary, isJapanese, beginsWithHyphen, endsWithHyphen, hyphenEdge, short, long, bareDot, Sound}
 use Rattle.rules.specs.Grammar as G
-use Rattle.rules.proofs.Views.{or-false, and-false, all-but, Cut, cut, cut-at, Ends, empty, single, pair, ends, all-ends, any-ends, length-ends}
+use Rattle.rules.proofs.Views.{Cut, cut, cut-at, Ends, empty, single, pair, ends, all-ends, any-ends, length-ends}
 use Rattle.rules.proofs.Says.{star-all, all-star, alnum-says, ascii-says, dot-says, exception, exceptional, exceptional-says, ja-says, label-says, edgeChar, edge-says}
 
 -- ---- characters
@@ -37,11 +37,11 @@ ascii-range c e = go (alnum c) refl e
     go false p q = let h = eqb-true c 0x2D q in omega arith
 
 -- no Japanese character stands below 3003, so none is of the ASCII set
-pub low : (P : Permits) → Laws P → (c : ℕ) → c < 0x3003 → P .japanese c ≡ false
-low P L c h = refuted (P .japanese c) (λ p. let k = in-range 0x3003 0x9FA0 c (L .stretch c p) in omega arith)
+pub low : (P : Permits) → InStretch P → (c : ℕ) → c < 0x3003 → jaChar P c ≡ false
+low P stretch c h = refuted (jaChar P c) (λ p. let k = in-range 0x3003 0x9FA0 c (stretch c p) in omega arith)
 
-pub ascii-not : (P : Permits) → Laws P → (c : ℕ) → asciiSet c ≡ true → P .japanese c ≡ false
-ascii-not P L c e = low P L c (let h = ascii-range c e in omega arith)
+pub ascii-not : (P : Permits) → Laws P → (c : ℕ) → asciiSet c ≡ true → jaChar P c ≡ false
+ascii-not P L c e = low P (L .stretch) c (let h = ascii-range c e in omega arith)
 
 pub ascii-no-dot : (c : ℕ) → asciiSet c ≡ true → middleDot c ≡ false
 unfolding middleDot
@@ -51,7 +51,7 @@ pub hyphen-ascii : (c : ℕ) → hyphen c ≡ true → asciiSet c ≡ true
 unfolding asciiSet
 hyphen-ascii c e = or-right (alnum c) (hyphen c) e
 
-pub no-hyphen : (P : Permits) → Laws P → (c : ℕ) → P .japanese c ≡ true → hyphen c ≡ false
+pub no-hyphen : (P : Permits) → Laws P → (c : ℕ) → jaChar P c ≡ true → hyphen c ≡ false
 no-hyphen P L c j = refuted (hyphen c) (λ e. clash j (ascii-not P L c (hyphen-ascii c e)))
 
 -- a letter or a digit is of the ASCII set, and no hyphen; what else is of it is the hyphen
@@ -79,27 +79,27 @@ module _ (P : Permits) (L : Laws P) where
   -- a character at an end is one that a label may hold, and no hyphen
   edge-label : (c : ℕ) → edgeChar P c ≡ true → (labelChar P c ≡ true) × (hyphen c ≡ false)
   unfolding edgeChar labelChar
-  edge-label c e = go (P .japanese c) refl e
+  edge-label c e = go (jaChar P c) refl e
     where
-      go : (b : Bool) → P .japanese c ≡ b → b || alnum c ≡ true → (P .japanese c || asciiSet c ≡ true) × (hyphen c ≡ false)
-      go true p q = (or-left (P .japanese c) (asciiSet c) p, no-hyphen P L c p)
-      go false p q = let k = alnum-ascii c q in (or-right (P .japanese c) (asciiSet c) (k .0), k .1)
+      go : (b : Bool) → jaChar P c ≡ b → b || alnum c ≡ true → (jaChar P c || asciiSet c ≡ true) × (hyphen c ≡ false)
+      go true p q = (or-left (jaChar P c) (asciiSet c) p, no-hyphen P L c p)
+      go false p q = let k = alnum-ascii c q in (or-right (jaChar P c) (asciiSet c) (k .0), k .1)
 
   label-edge : (c : ℕ) → labelChar P c ≡ true → hyphen c ≡ false → edgeChar P c ≡ true
   unfolding edgeChar labelChar
-  label-edge c e n = go (P .japanese c) e
+  label-edge c e n = go (jaChar P c) e
     where
       go : (j : Bool) → j || asciiSet c ≡ true → j || alnum c ≡ true
       go true q = refl
       go false q = ascii-alnum c q n
 
-  ja-edge : (c : ℕ) → P .japanese c ≡ true → edgeChar P c ≡ true
+  ja-edge : (c : ℕ) → jaChar P c ≡ true → edgeChar P c ≡ true
   unfolding edgeChar
-  ja-edge c e = or-left (P .japanese c) (alnum c) e
+  ja-edge c e = or-left (jaChar P c) (alnum c) e
 
   alnum-edge : (c : ℕ) → alnum c ≡ true → edgeChar P c ≡ true
   unfolding edgeChar
-  alnum-edge c e = or-right (P .japanese c) (alnum c) e
+  alnum-edge c e = or-right (jaChar P c) (alnum c) e
 
   -- ---- what the forms of a label have in common
 
@@ -129,51 +129,47 @@ module _ (P : Permits) (L : Laws P) where
 
   pub ascii-label : (c : ℕ) → asciiSet c ≡ true → labelChar P c ≡ true
   unfolding labelChar
-  ascii-label c e = or-right (P .japanese c) (asciiSet c) e
+  ascii-label c e = or-right (jaChar P c) (asciiSet c) e
 
-  label-ascii : (c : ℕ) → labelChar P c ≡ true → P .japanese c ≡ false → asciiSet c ≡ true
+  label-ascii : (c : ℕ) → labelChar P c ≡ true → jaChar P c ≡ false → asciiSet c ≡ true
   unfolding labelChar
   label-ascii c e n = rw n at e
 
-  ascii-sound : {l : List ℕ} → G.ASCII-label l → Sound P l
-  unfolding isEmpty labelRows isJapanese short long bareDot
+  ascii-sound : {l : List ℕ} → G.ASCII-label l → Sound P 3 l
+  unfolding isEmpty isJapanese short long bareDot
   ascii-sound (G.ascii {a = a} {z = z} {m = m} p r lo hi q) =
       let w : List ℕ = a ∷ (m ++ (z ∷ [])) in
       let pa = alnum-says a .1 p in
       let pz = alnum-says z .1 q in
       let rm : allOf asciiSet m ≡ true = star-all _ _ ascii-says r in
       let all : allOf asciiSet w ≡ true = all-ends a m z asciiSet ∙ rw (alnum-ascii a pa .0, rm, alnum-ascii z pz .0) in
-      let no-ja : anyOf (P .japanese) w ≡ false = all-none asciiSet (P .japanese) (ascii-not P L) w all in
+      let no-ja : anyOf (jaChar P) w ≡ false = all-none asciiSet (jaChar P) (ascii-not P L) w all in
       let n : length w ≡ length m + 2 = length-ends a m z in
       let F = framed a m z (alnum-edge a pa) (all-weaker asciiSet (labelChar P) ascii-label m rm) (alnum-edge z pz) in
       record {
         chars = F .chars;
         filled = refl;
-        clear = (
-          F .no-edge,
-          (
-            rw (no-ja, le-ltb (length w) 3 (omega arith)),
-            (
-              rw (no-ja, le-ltb 63 (length w) (omega arith)),
-              (rw (all-none asciiSet middleDot ascii-no-dot w all), tt),
-            ),
-          ),
-        );
+        meets = record {
+          edge = F .no-edge;
+          enough = rw (no-ja, le-ltb (length w) 3 (omega arith));
+          few = rw (no-ja, le-ltb 63 (length w) (omega arith));
+          dotted = rw (all-none asciiSet middleDot ascii-no-dot w all);
+        };
       }
 
-  sound-ascii : {l : List ℕ} → Ends l → Sound P l → anyOf (P .japanese) l ≡ false → G.ASCII-label l
-  unfolding isEmpty labelRows isJapanese short long
+  sound-ascii : {l : List ℕ} → Ends l → Sound P 3 l → anyOf (jaChar P) l ≡ false → G.ASCII-label l
+  unfolding isEmpty isJapanese short long
   sound-ascii empty S e = absurd (true≢false (S .filled))
-  sound-ascii (single a) S e = absurd (true≢false (rw e at (S .clear .1 .0)))
+  sound-ascii (single a) S e = absurd (true≢false (rw e at (S .meets .enough)))
   sound-ascii (pair a m z) S e =
       let w : List ℕ = a ∷ (m ++ (z ∷ [])) in
       let n : length w ≡ length m + 2 = length-ends a m z in
-      let h = neither (hyphen a) (hyphen z) (sym (edge-ends a m z) ∙ S .clear .0) in
-      let all = sym (all-ends a m z asciiSet) ∙ all-but (labelChar P) (P .japanese) asciiSet label-ascii w (S .chars) e in
+      let h = neither (hyphen a) (hyphen z) (sym (edge-ends a m z) ∙ S .meets .edge) in
+      let all = sym (all-ends a m z asciiSet) ∙ all-but (labelChar P) (jaChar P) asciiSet label-ascii w (S .chars) e in
       let c = both (asciiSet a) _ all in
       let d = both (allOf asciiSet m) (asciiSet z) (c .1) in
-      let lo : ltb (length w) 3 ≡ false = rw e at (S .clear .1 .0) in
-      let hi : ltb 63 (length w) ≡ false = rw e at (S .clear .1 .1 .0) in
+      let lo : ltb (length w) 3 ≡ false = rw e at (S .meets .enough) in
+      let hi : ltb 63 (length w) ≡ false = rw e at (S .meets .few) in
       G.ascii (alnum-says a .0 (ascii-alnum a (c .0) (h .0))) (all-star _ _ ascii-says m (d .0))
       (omega (arith, ltb-false (length w) 3 lo)) (omega (arith, ltb-false 63 (length w) hi))
       (alnum-says z .0 (ascii-alnum z (d .1) (h .1)))
@@ -182,7 +178,7 @@ module _ (P : Permits) (L : Laws P) where
 
   record Formed (l : List ℕ) : Type 0 where
     frame : Framed l
-    some-ja : anyOf (P .japanese) l ≡ true
+    some-ja : anyOf (jaChar P) l ≡ true
 
   formed : {l : List ℕ} → G.JA-form P l → Formed l
   unfolding anyOf allOf hyphenEdge beginsWithHyphen endsWithHyphen
@@ -194,13 +190,13 @@ module _ (P : Permits) (L : Laws P) where
       let j = ja-says P a .1 p in
       record {
         frame = framed a m z (ja-edge a j) (star-all _ _ (label-says P) r) (edge-says P z .1 q);
-        some-ja = any-ends a m z (P .japanese) ∙ rw j;
+        some-ja = any-ends a m z (jaChar P) ∙ rw j;
       }
   formed (G.form-3 {a = a} {z = z} {m = m} p r q) =
       let j = ja-says P z .1 q in
       record {
         frame = framed a m z (alnum-edge a (alnum-says a .1 p)) (star-all _ _ (label-says P) r) (ja-edge z j);
-        some-ja = any-ends a m z (P .japanese) ∙ or-right (P .japanese a) _ (or-right (anyOf (P .japanese) m) _ j);
+        some-ja = any-ends a m z (jaChar P) ∙ or-right (jaChar P a) _ (or-right (anyOf (jaChar P) m) _ j);
       }
   formed (G.form-4 {a = a} {j = j} {z = z} {m = m} {n = n} p r q s t) =
       let w : List ℕ = m ++ j ∷ n in
@@ -208,13 +204,13 @@ module _ (P : Permits) (L : Laws P) where
       let k = edge-label j (ja-edge j e) in
       let c : allOf (labelChar P) w ≡ true =
       all-append (labelChar P) m (j ∷ n) ∙ rw (star-all _ _ (label-says P) r, k .0, star-all _ _ (label-says P) s) in
-      let some : anyOf (P .japanese) w ≡ true = any-append (P .japanese) m (j ∷ n) ∙ or-right (anyOf (P .japanese) m) _ (or-left (P .japanese j) _ e) in
+      let some : anyOf (jaChar P) w ≡ true = any-append (jaChar P) m (j ∷ n) ∙ or-right (anyOf (jaChar P) m) _ (or-left (jaChar P j) _ e) in
       record {
         frame = framed a w z (alnum-edge a (alnum-says a .1 p)) c (alnum-edge z (alnum-says z .1 t));
-        some-ja = any-ends a w z (P .japanese) ∙ or-right (P .japanese a) _ (or-left (anyOf (P .japanese) w) _ some);
+        some-ja = any-ends a w z (jaChar P) ∙ or-right (jaChar P a) _ (or-left (anyOf (jaChar P) w) _ some);
       }
 
-  inside-form : (a z : ℕ) {m : List ℕ} → G.ALNUM a → G.ALNUM z → allOf (labelChar P) m ≡ true → Cut (P .japanese) m
+  inside-form : (a z : ℕ) {m : List ℕ} → G.ALNUM a → G.ALNUM z → allOf (labelChar P) m ≡ true → Cut (jaChar P) m
       → G.JA-form P (a ∷ (m ++ (z ∷ [])))
   unfolding allOf
   inside-form a z p q r (cut m j n e) =
@@ -225,18 +221,18 @@ module _ (P : Permits) (L : Laws P) where
   form : {l : List ℕ} → Ends l → Formed l → G.JA-form P l
   unfolding anyOf edgeChar
   form empty F = absurd (false≢true (F .some-ja))
-  form (single a) F = G.form-1 (ja-says P a .0 (sym (or-false (P .japanese a)) ∙ F .some-ja))
+  form (single a) F = G.form-1 (ja-says P a .0 (sym (or-false (jaChar P a)) ∙ F .some-ja))
   form (pair a m z) F =
       let k = frame a m z (F .frame) in
-      go (P .japanese a) refl (P .japanese z) refl (k .first) (k .mid) (k .last) (sym (any-ends a m z (P .japanese)) ∙ F .some-ja)
+      go (jaChar P a) refl (jaChar P z) refl (k .first) (k .mid) (k .last) (sym (any-ends a m z (jaChar P)) ∙ F .some-ja)
     where
-      go : (b : Bool) → P .japanese a ≡ b → (e : Bool) → P .japanese z ≡ e → b || alnum a ≡ true → allOf (labelChar P) m ≡ true → e || alnum z ≡ true
-          → b || (anyOf (P .japanese) m || e) ≡ true → G.JA-form P (a ∷ (m ++ (z ∷ [])))
+      go : (b : Bool) → jaChar P a ≡ b → (e : Bool) → jaChar P z ≡ e → b || alnum a ≡ true → allOf (labelChar P) m ≡ true → e || alnum z ≡ true
+          → b || (anyOf (jaChar P) m || e) ≡ true → G.JA-form P (a ∷ (m ++ (z ∷ [])))
       go true p e q pa r pz s =
           G.form-2 (ja-says P a .0 p) (all-star _ _ (label-says P) m r) (edge-says P z .0 (ap (λ (x : Bool). x || alnum z) q ∙ pz))
       go false p true q pa r pz s = G.form-3 (alnum-says a .0 pa) (all-star _ _ (label-says P) m r) (ja-says P z .0 q)
       go false p false q pa r pz s =
-          inside-form a z (alnum-says a .0 pa) (alnum-says z .0 pz) r (cut-at (P .japanese) m (sym (or-false (anyOf (P .japanese) m)) ∙ s))
+          inside-form a z (alnum-says a .0 pa) (alnum-says z .0 pz) r (cut-at (jaChar P) m (sym (or-false (anyOf (jaChar P) m)) ∙ s))
 
   -- ---- an exception string is a label of the three signs and ASCII with a middle dot
 
@@ -248,13 +244,13 @@ module _ (P : Permits) (L : Laws P) where
   unfolding exceptional exception ordinary
   not-ordinary c e = go (exception c) e
     where
-      go : (b : Bool) → b || asciiSet c ≡ true → P .japanese c && not b ≡ false
-      go true q = and-false (P .japanese c)
+      go : (b : Bool) → b || asciiSet c ≡ true → jaChar P c && not b ≡ false
+      go true q = and-false (jaChar P c)
       go false q = rw (ascii-not P L c q)
 
   or-ordinary : (c : ℕ) → labelChar P c ≡ true → ordinary P c ≡ false → exceptional c ≡ true
   unfolding exceptional exception ordinary labelChar
-  or-ordinary c = go (P .japanese c) (exception c)
+  or-ordinary c = go (jaChar P c) (exception c)
     where
       go : (j b : Bool) → j || asciiSet c ≡ true → j && not b ≡ false → b || asciiSet c ≡ true
       go true true e n = refl
@@ -297,38 +293,43 @@ module _ (P : Permits) (L : Laws P) where
   filled-some [] e = absurd (true≢false e)
   filled-some (x ∷ xs) e = omega arith
 
-  ja-sound : {l : List ℕ} → G.JA-label P l → Sound P l
-  unfolding labelRows isJapanese short long
+  ja-sound : {l : List ℕ} → G.JA-label P l → Sound P 3 l
+  unfolding isJapanese short long
   ja-sound (G.ja-label {l = l} f lo hi x) =
       let F = formed f in
       record {
         chars = F .frame .chars;
         filled = some-filled l lo;
-        clear = (F .frame .no-edge, (rw (F .some-ja), (rw (F .some-ja, le-ltb 15 (length l) hi), (no-bare (bareDot P l) refl (F .frame .chars), tt))));
+        meets = record {
+          edge = F .frame .no-edge;
+          enough = rw (F .some-ja);
+          few = rw (F .some-ja, le-ltb 15 (length l) hi);
+          dotted = no-bare (bareDot P l) refl (F .frame .chars);
+        };
       }
     where
       no-bare : (b : Bool) → bareDot P l ≡ b → allOf (labelChar P) l ≡ true → b ≡ false
       no-bare true e w = absurd (x (bare-exception l w e))
       no-bare false e w = refl
 
-  sound-ja : (l : List ℕ) → Sound P l → anyOf (P .japanese) l ≡ true → G.JA-label P l
-  unfolding labelRows isJapanese long
+  sound-ja : (l : List ℕ) → Sound P 3 l → anyOf (jaChar P) l ≡ true → G.JA-label P l
+  unfolding isJapanese long
   sound-ja l S e =
-      let hi : ltb 15 (length l) ≡ false = rw e at (S .clear .1 .1 .0) in
-      G.ja-label (form (ends l) (record { frame = record { chars = S .chars; no-edge = S .clear .0 }; some-ja = e }))
+      let hi : ltb 15 (length l) ≡ false = rw e at (S .meets .few) in
+      G.ja-label (form (ends l) (record { frame = record { chars = S .chars; no-edge = S .meets .edge }; some-ja = e }))
       (filled-some l (S .filled))
       (ltb-false 15 (length l) hi)
-      (λ x. clash (exception-bare x) (S .clear .1 .1 .1 .0))
+      (λ x. clash (exception-bare x) (S .meets .dotted))
 
   -- ---- the two ways
 
-  pub label-sound : {l : List ℕ} → G.label P l → Sound P l
+  pub label-sound : {l : List ℕ} → G.label P l → Sound P 3 l
   label-sound (G.an-ascii d) = ascii-sound d
   label-sound (G.a-japanese d) = ja-sound d
 
-  pub sound-label : {l : List ℕ} → Sound P l → G.label P l
-  sound-label {l} S = go (anyOf (P .japanese) l) refl
+  pub sound-label : {l : List ℕ} → Sound P 3 l → G.label P l
+  sound-label {l} S = go (anyOf (jaChar P) l) refl
     where
-      go : (b : Bool) → anyOf (P .japanese) l ≡ b → G.label P l
+      go : (b : Bool) → anyOf (jaChar P) l ≡ b → G.label P l
       go true e = G.a-japanese (sound-ja l S e)
       go false e = G.an-ascii (sound-ascii (ends l) S e)

@@ -9,19 +9,17 @@ use native.Mathlib.Omega.{arith}
 use lib.Dec.{eqb}
 use lib.ListN.{length, getD}
 use borrow.Author.Tests.{eq-eqb, ne-eqb, lt-ltb, le-ltb}
-use Rattle.lists.specs.Tests.{pick, allOf, anyOf, firstOf, same}
-use Rattle.lists.specs.Rows.{Row, row, Answer, first, Clear}
-use Rattle.lists.proofs.Tables.{clear, clear-before, hit, passed-over, refusing, accepted-clear}
+use Rattle.lists.specs.Tests.{anyOf, indexOf, same}
+use Rattle.lists.specs.Rows.{Row, row, first}
+use Rattle.lists.specs.declared.Answer.{Answer}
+use Rattle.lists.proofs.Tables.{clear, clear-before, refused-before, hit, passed-over}
 use Rattle.characters.specs.Characters.{hyphen}
 use Rattle.normal.specs.Normal.{normalForm, places}
 use Rattle.rules.specs.Labels.{labels}
 use Rattle.rules.specs.Permits.{Permits, middle, isEmpty}
-use Rattle.rules.specs.Rules.{unfit, beginsWithHyphen, endsWithHyphen, hyphenEdge, short, long, bareDot, labelRows, jp, nameRows, textRows, classOf, verdict, rules, accepted}
-use Rattle.rules.specs.declared.Class.the-variants.{None}
+use Rattle.rules.specs.Rules.{unfit, beginsWithHyphen, endsWithHyphen, hyphenEdge, labelRows, jp, lastRows, nameRows, frontRows, textRows, classOf, verdict, byLabels, rules, accepted, refused}
 use Rattle.rules.specs.declared.Verdict.{Verdict}
-
-abbrev pub refused : ℕ → ℕ → Verdict
-refused n p = record { number = n; place = p; class = None }
+use Rattle.rules.proofs.ByName.{label-cleared, front-clear, front-cleared}
 
 -- ---- a label
 
@@ -43,55 +41,19 @@ unfolding isEmpty
 empty-is [] = refl
 empty-is (x ∷ xs) = sym (ne-eqb (suc (length xs)) 0 (λ e. omega arith))
 
-module _ (P : Permits) (least : ℕ) (l : List ℕ) (at : ℕ) where
-  pub label-clear : first (labelRows P least l at) .number ≡ 0 → Clear (labelRows P least l at)
-  unfolding labelRows refusing allOf
-  label-clear e = accepted-clear (labelRows P least l at) refl e
-
--- of a label at place 0 the place is 0
-label-place : (P : Permits) (least : ℕ) (l : List ℕ) → first (labelRows P least l 0) .place ≡ 0
-unfolding labelRows first
-label-place P least l = go (hyphenEdge l) (short P least l) (long P l) (bareDot P l)
-  where
-    go : (a b c d : Bool) → first (row 7 a 0 ∷ row 8 b 0 ∷ row 9 c 0 ∷ row 10 d 0 ∷ []) .place ≡ 0
-    go true b c d = refl
-    go false true c d = refl
-    go false false true d = refl
-    go false false false true = refl
-    go false false false false = refl
-
--- a refusal stands, whatever table follows
-pub refused-before : (rs ss : List Row) → (first rs .number ≡ 0 → ⊥) → first (rs ++ ss) ≡ first rs
-unfolding first
-refused-before [] ss n = absurd (n refl)
-refused-before (r ∷ rs) ss n = go (r .applies) n (refused-before rs ss)
-  where
-    go : (b : Bool) → ((pick b (record { number = r .number; place = r .place }) (first rs)) .number ≡ 0 → ⊥)
-        → ((first rs .number ≡ 0 → ⊥) → first (rs ++ ss) ≡ first rs)
-        → pick b (record { number = r .number; place = r .place }) (first (rs ++ ss)) ≡ pick b (record { number = r .number; place = r .place }) (first rs)
-    go true n on = refl
-    go false n on = on n
-
 -- ---- labels: 5 to 12
 
--- 11 and 12
-abbrev lastRows : Permits → List (List ℕ) → List Row
-lastRows P ls = row 11 (not (same (getD ls (length ls - 1) []) jp)) 0 ∷ row 12 (eqb (length ls) 3 && not (middle P (getD ls 1 []))) 0 ∷ []
-
 module _ (P : Permits) (ls : List (List ℕ)) where
-  abbrev pub byLabels : Verdict
-  byLabels = verdict (first (nameRows P ls)) ls
-
   -- an answer of the table, said as a verdict
-  told : {a : Answer} {v : Verdict} → first (nameRows P ls) ≡ a → verdict a ls ≡ v → byLabels ≡ v
+  told : {a : Answer} {v : Verdict} → first (nameRows P ls) ≡ a → verdict a ls ≡ v → byLabels P ls ≡ v
   told e f = ap (λ (a : Answer). verdict a ls) e ∙ f
 
-  pub name-5 : eqb (length ls) 2 || (P .three && eqb (length ls) 3) ≡ false → byLabels ≡ refused 5 0
+  pub name-5 : eqb (length ls) 2 || (P .three && eqb (length ls) 3) ≡ false → byLabels P ls ≡ refused 5 0
   unfolding nameRows verdict
   name-5 e = told (hit 5 _ 0 _ (ap not e)) refl
 
   module _ (no-5 : eqb (length ls) 2 || (P .three && eqb (length ls) 3) ≡ true) where
-    pub name-6 : anyOf isEmpty ls ≡ true → byLabels ≡ refused 6 (firstOf isEmpty ls)
+    pub name-6 : anyOf isEmpty ls ≡ true → byLabels P ls ≡ refused 6 (indexOf isEmpty ls)
     unfolding nameRows verdict
     name-6 e = told (passed-over 5 _ 0 _ (ap not no-5) ∙ hit 6 _ _ _ e) refl
 
@@ -101,56 +63,65 @@ module _ (P : Permits) (ls : List (List ℕ)) where
       unfolding nameRows
       on e = passed-over 5 _ 0 _ (ap not no-5) ∙ passed-over 6 _ _ _ no-6 ∙ e
 
-      module _ {n : ℕ} (e : n ≡ first (labelRows P 3 (getD ls 0 []) 0) .number) where
-        pub name-left : (n ≡ 0 → ⊥) → byLabels ≡ refused n 0
+      module _ {a : Answer} (e : a ≡ first (labelRows P 3 (getD ls 0 []) 0)) where
+        number-is : a .number ≡ first (labelRows P 3 (getD ls 0 []) 0) .number
+        number-is = ap (λ (x : Answer). x .number) e
+
+        pub name-left : (a .number ≡ 0 → ⊥) → byLabels P ls ≡ refused (a .number) (a .place)
         unfolding verdict
         name-left h =
-            let l = getD ls 0 [] in
-            told (on (refused-before (labelRows P 3 l 0) (lastRows P ls) (λ z. h (e ∙ z)))) (rw (← e, label-place P 3 l, ne-eqb n 0 h))
+            told (on (refused-before (labelRows P 3 (getD ls 0 []) 0) (lastRows P ls) (λ z. h (number-is ∙ z)) ∙ sym e)) (rw (ne-eqb (a .number) 0 h))
 
-        module _ (z : n ≡ 0) where
-          past : {a : Answer} → first (lastRows P ls) ≡ a → first (nameRows P ls) ≡ a
-          past f =
-              let l = getD ls 0 [] in
-              on (clear-before (labelRows P 3 l 0) (lastRows P ls) (label-clear P 3 l 0 (sym e ∙ z)) ∙ f)
+        module _ (z : a .number ≡ 0) where
+          past : {b : Answer} → first (lastRows P ls) ≡ b → first (nameRows P ls) ≡ b
+          past f = on (clear-before (labelRows P 3 (getD ls 0 []) 0) (lastRows P ls) (label-cleared P 3 (getD ls 0 []) 0 (sym number-is ∙ z)) ∙ f)
 
-          pub name-11 : same (getD ls (length ls - 1) []) jp ≡ false → byLabels ≡ refused 11 0
+          pub name-11 : same (getD ls (length ls - 1) []) jp ≡ false → byLabels P ls ≡ refused 11 0
           unfolding verdict
           name-11 f = told (past (hit 11 _ 0 _ (ap not f))) refl
 
           module _ (no-11 : same (getD ls (length ls - 1) []) jp ≡ true) where
-            pub name-12 : eqb (length ls) 3 && not (middle P (getD ls 1 [])) ≡ true → byLabels ≡ refused 12 0
+            pub name-12 : eqb (length ls) 3 && not (middle P (getD ls 1 [])) ≡ true → byLabels P ls ≡ refused 12 0
             unfolding verdict
             name-12 f = told (past (passed-over 11 _ 0 _ (ap not no-11) ∙ hit 12 _ 0 _ f)) refl
 
-            pub name-0 : eqb (length ls) 3 && not (middle P (getD ls 1 [])) ≡ false → byLabels ≡ accepted (classOf ls)
+            pub name-0 : eqb (length ls) 3 && not (middle P (getD ls 1 [])) ≡ false → byLabels P ls ≡ accepted (classOf ls)
             unfolding verdict
             name-0 f = told (past (clear (lastRows P ls) (ap not no-11, (f, tt)))) refl
 
--- ---- a text: 2 to 4, and then its labels
+-- ---- a text: 2 to 4
 
 module _ (P : Permits) (text : List ℕ) where
-  pub text-2 : length text ≡ 0 → rules P text ≡ refused 2 0
-  unfolding rules textRows verdict
-  text-2 e = ap (λ (a : Answer). verdict a (labels (normalForm text))) (hit 2 _ 0 _ (eq-eqb (length text) 0 e))
+  pub front-2 : length text ≡ 0 → first (frontRows P text) ≡ record { number = 2; place = 0 }
+  unfolding frontRows
+  front-2 e = hit 2 _ 0 _ (eq-eqb (length text) 0 e)
 
   module _ (some : length text ≡ 0 → ⊥) where
-    pub text-3 : 256 < length text → rules P text ≡ refused 3 256
+    pub front-3 : 256 < length text → first (frontRows P text) ≡ record { number = 3; place = 256 }
+    unfolding frontRows
+    front-3 h = passed-over 2 _ 0 _ (ne-eqb (length text) 0 some) ∙ hit 3 _ 256 _ (lt-ltb 256 (length text) h)
+
+    pub front-4 : length text ≤ 256 → anyOf (unfit P) (normalForm text) ≡ true
+        → first (frontRows P text) ≡ record { number = 4; place = getD (places text) (indexOf (unfit P) (normalForm text)) 0 }
+    unfolding frontRows
+    front-4 few e =
+        passed-over 2 _ 0 _ (ne-eqb (length text) 0 some) ∙ passed-over 3 _ 256 _ (le-ltb 256 (length text) few) ∙ hit 4 _ _ _ e
+
+    pub front-0 : length text ≤ 256 → anyOf (unfit P) (normalForm text) ≡ false → first (frontRows P text) ≡ record { number = 0; place = 0 }
+    front-0 few e = clear (frontRows P text) (front-clear P text (record { some = omega arith; few = few; fit = e }))
+
+  -- ---- what they refuse the rules refuse; else the rules say what 5 to 12 say of the labels
+
+  module _ {a : Answer} (e : first (frontRows P text) ≡ a) where
+    front-number : first (frontRows P text) .number ≡ a .number
+    front-number = ap (λ (x : Answer). x .number) e
+
+    pub text-front : (a .number ≡ 0 → ⊥) → rules P text ≡ refused (a .number) (a .place)
     unfolding rules textRows verdict
-    text-3 h =
-        ap (λ (a : Answer). verdict a (labels (normalForm text)))
-        (passed-over 2 _ 0 _ (ne-eqb (length text) 0 some) ∙ hit 3 _ 256 _ (lt-ltb 256 (length text) h))
+    text-front h =
+        ap (λ (x : Answer). verdict x (labels (normalForm text))) (refused-before (frontRows P text) _ (λ z. h (sym front-number ∙ z)) ∙ e)
+        ∙ rw (ne-eqb (a .number) 0 h)
 
-    module _ (few : length text ≤ 256) where
-      -- the answer of the rows from 4 on
-      fitting : first (textRows P text) ≡ first (row 4 (anyOf (unfit P) (normalForm text)) (getD (places text) (firstOf (unfit P) (normalForm text)) 0) ∷ nameRows P (labels (normalForm text)))
-      unfolding textRows
-      fitting = passed-over 2 _ 0 _ (ne-eqb (length text) 0 some) ∙ passed-over 3 _ 256 _ (le-ltb 256 (length text) few)
-
-      pub text-4 : anyOf (unfit P) (normalForm text) ≡ true → rules P text ≡ refused 4 (getD (places text) (firstOf (unfit P) (normalForm text)) 0)
-      unfolding rules verdict
-      text-4 e = ap (λ (a : Answer). verdict a (labels (normalForm text))) (fitting ∙ hit 4 _ _ _ e)
-
-      pub text-on : anyOf (unfit P) (normalForm text) ≡ false → rules P text ≡ byLabels P (labels (normalForm text))
-      unfolding rules
-      text-on e = ap (λ (a : Answer). verdict a (labels (normalForm text))) (fitting ∙ passed-over 4 _ _ _ e)
+    pub text-on : a .number ≡ 0 → rules P text ≡ byLabels P (labels (normalForm text))
+    unfolding rules textRows
+    text-on z = ap (λ (x : Answer). verdict x (labels (normalForm text))) (clear-before (frontRows P text) _ (front-cleared P text (front-number ∙ z)))

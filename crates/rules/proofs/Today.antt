@@ -15,7 +15,7 @@ use Rattle.characters.specs.KanjiBits.{kanjiBits}
 use Rattle.characters.proofs.Bounds.{with-bounds}
 use Rattle.characters.proofs.Lent as Lent
 use Rattle.characters.specs.Characters.{alnum, hyphen, asciiSet, hiragana, katakana, signs, japaneseBy, japanese}
-use Rattle.rules.specs.Permits.{Laws, labelChar, isEmpty, Permits}
+use Rattle.rules.specs.Permits.{Permits, InStretch, ShortMiddles, Laws, jaChar, labelChar, isEmpty}
 use Rattle.rules.specs.Prefectures.{prefectures}
 use Rattle.rules.specs.Editions.{today, todayWith}
 use Rattle.rules.specs.Hopeful.{settled, HopeLaws}
@@ -27,7 +27,7 @@ ninety-four = refl
 -- ---- the laws
 
 all-held : allOf (allOf (labelChar today)) prefectures ≡ true
-unfolding allOf anyOf elem within labelChar asciiSet alnum hyphen hiragana katakana signs japaneseBy japanese kanji prefectures today
+unfolding allOf anyOf elem within jaChar labelChar asciiSet alnum hyphen hiragana katakana signs japaneseBy japanese kanji prefectures today
 all-held = refl
 
 all-filled : allOf (λ (l : List ℕ). not (isEmpty l)) prefectures ≡ true
@@ -39,7 +39,7 @@ unfolding allOf prefectures
 all-short = refl
 
 pub today-laws : Laws today
-unfolding today
+unfolding today jaChar
 today-laws = record {
   stretch = λ c e. with-bounds kanjiBits c (Lent.lent c ∙ e);
   middle-chars = all-held;
@@ -59,7 +59,7 @@ unfolding voiced repeats halfVoiced allOf anyOf elem within hiragana katakana si
 base-japanese b m n = of-base japanese b m refl refl refl refl n
 
 pub today-hope-laws : HopeLaws today
-unfolding today anyOf elem within hiragana katakana signs japaneseBy japanese
+unfolding today jaChar anyOf elem within hiragana katakana signs japaneseBy japanese
 today-hope-laws = record {
   laws = today-laws;
   middle-settled = all-settled;
@@ -78,10 +78,10 @@ pub lending : (Q : Permits → Type 0) {table : List ℕ} → table ≡ kanjiBit
 lending Q e q = subst Q (ap todayWith e ∙ lent) q
 
 -- two of the laws hold whatever table is lent
-pub lent-stretch : (table : List ℕ) (c : ℕ) → todayWith table .japanese c ≡ true → within 0x3003 0x9FA0 c ≡ true
-unfolding todayWith
+pub lent-stretch : (table : List ℕ) → InStretch (todayWith table)
+unfolding todayWith jaChar
 lent-stretch table c e = with-bounds table c e
 
-pub lent-short : (table : List ℕ) → allOf (λ (l : List ℕ). leb (length l) 15) (todayWith table .middles) ≡ true
+pub lent-short : (table : List ℕ) → ShortMiddles (todayWith table)
 unfolding todayWith
 lent-short table = all-short

@@ -1,45 +1,13 @@
--- A list by its parts: what is left after a test, where a test first holds, cut at an entry, taken by its two ends.
+-- A list by its parts: cut at an entry of which a test holds, or taken by its two ends.
 -- Assumes nothing.
 use mathlib.Core.Path.{_≡_, refl, ap, _∙_}
-use mathlib.Core.Bool.{Bool, true, false, _&&_, _||_, false≢true}
+use mathlib.Core.Bool.{Bool, true, false, _&&_, _||_, false≢true, or-false, and-true}
 use mathlib.Core.List.{List, [], _∷_, _++_}
-use Prim.Native.Nat.{suc, _+_, _≤_}
+use Prim.Native.Nat.{_+_}
 use native.Mathlib.Omega.{arith}
 use lib.ListN.{length, length-append}
-use Rattle.lists.specs.Tests.{pick, allOf, anyOf, firstOf}
-use Rattle.lists.proofs.Laws.{both, neither, all-append, any-append}
-
-pub or-false : (a : Bool) → a || false ≡ a
-or-false true = refl
-or-false false = refl
-
-and-true : (a : Bool) → a && true ≡ a
-and-true true = refl
-and-true false = refl
-
-pub and-false : (a : Bool) → a && false ≡ false
-and-false true = refl
-and-false false = refl
-
--- where f holds of all, g of none, and what f holds of is g's or h's, h holds of all
-pub all-but : {A : Type 0} (f g h : A → Bool) (imp : (c : A) → f c ≡ true → g c ≡ false → h c ≡ true) (l : List A)
-    → allOf f l ≡ true → anyOf g l ≡ false → allOf h l ≡ true
-unfolding allOf anyOf
-all-but f g h imp [] e n = refl
-all-but f g h imp (x ∷ xs) e n =
-    let p = both (f x) (allOf f xs) e in
-    let q = neither (g x) (anyOf g xs) n in
-    rw (imp x (p .0) (q .0)) (all-but f g h imp xs (p .1) (q .1))
-
--- the first entry of which f holds stands in the list, or just past its end
-pub first-bound : {A : Type 0} (f : A → Bool) (l : List A) → firstOf f l ≤ length l
-unfolding firstOf
-first-bound f [] = omega arith
-first-bound f (x ∷ xs) = go (f x) (first-bound f xs)
-  where
-    go : (b : Bool) → firstOf f xs ≤ length xs → pick b 0 (suc (firstOf f xs)) ≤ suc (length xs)
-    go true h = omega arith
-    go false h = omega arith
+use Rattle.lists.specs.Tests.{allOf, anyOf}
+use Rattle.lists.proofs.Laws.{all-append, any-append}
 
 -- a list cut at an entry of which f holds
 pub data Cut {A : Type 0} (f : A → Bool) : List A → Type 0 where

@@ -1,13 +1,14 @@
--- The registry's grammar: document 004's ABNF, each rule an inductive type of its own under its name; a rule stands below those
--- it uses. With the ordered rules (specs/Rules) it shares what the edition permits, its Japanese characters and its prefecture labels, and
--- nothing else. Letters are in lower case, as the normal form has them: the registry, like ABNF (RFC 5234), takes the two cases for one.
+-- The registry's grammar: document 004's ABNF, each rule an inductive type of its own under its name; a rule stands
+-- below those it uses. With the ordered rules (specs/Rules) it shares what the edition permits, its Japanese
+-- characters and its prefecture labels, and nothing else. Letters are in lower case, as the normal form has them: the
+-- registry, like ABNF (RFC 5234), takes the two cases for one.
 use mathlib.Core.Bool.{true}
 use mathlib.Core.List.{List, [], _∷_, _++_}
 use mathlib.Core.Path.{_≡_}
 use Prim.Native.Nat.{ℕ, _≤_}
 use lib.ListN.{length}
 use Rattle.normal.specs.Normal.{normalForm}
-use Rattle.rules.specs.Permits.{Permits, middle}
+use Rattle.rules.specs.Permits.{Permits, jaChar, middle}
 use Rattle.rules.specs.declared.Class.{Class}
 use Rattle.rules.specs.declared.Class.the-variants.{General, Prefecture}
 
@@ -50,13 +51,13 @@ pub data EXCEPTION-char (c : ℕ) : Type 0 where
 
 -- EXCEPTION-STRING = *(EXCEPTION-char / ALNUM-HYPHEN) MIDDLE-DOT *(EXCEPTION-char / ALNUM-HYPHEN)
 pub data EXCEPTION-STRING : List ℕ → Type 0 where
-  dotted : {c : ℕ} {m n : List ℕ} → Star (Or EXCEPTION-char ALNUM-HYPHEN) m → MIDDLE-DOT c → Star (Or EXCEPTION-char ALNUM-HYPHEN) n
-      → EXCEPTION-STRING (m ++ c ∷ n)
+  dotted : {c : ℕ} {m n : List ℕ} → Star (Or EXCEPTION-char ALNUM-HYPHEN) m → MIDDLE-DOT c
+      → Star (Or EXCEPTION-char ALNUM-HYPHEN) n → EXCEPTION-STRING (m ++ c ∷ n)
 
 module _ (P : Permits) where
   -- JA-char = %x3005 / .. / %x9FA0, of which the document prints the first and the last: what the edition permits
   pub data JA-char (c : ℕ) : Type 0 where
-    ja : P .japanese c ≡ true → JA-char c
+    ja : jaChar P c ≡ true → JA-char c
 
   abbrev pub JA-or-ALNUM-HYPHEN : ℕ → Type 0
   JA-or-ALNUM-HYPHEN = Or JA-char ALNUM-HYPHEN
@@ -65,12 +66,13 @@ module _ (P : Permits) where
     -- JA-char
     form-1 : {c : ℕ} → JA-char c → JA-form (c ∷ [])
     -- JA-char *(JA-char / ALNUM-HYPHEN) (JA-char / ALNUM)
-    form-2 : {a z : ℕ} {m : List ℕ} → JA-char a → Star JA-or-ALNUM-HYPHEN m → Or JA-char ALNUM z → JA-form (a ∷ (m ++ (z ∷ [])))
+    form-2 : {a z : ℕ} {m : List ℕ} → JA-char a → Star JA-or-ALNUM-HYPHEN m → Or JA-char ALNUM z
+        → JA-form (a ∷ (m ++ (z ∷ [])))
     -- ALNUM *(JA-char / ALNUM-HYPHEN) JA-char
     form-3 : {a z : ℕ} {m : List ℕ} → ALNUM a → Star JA-or-ALNUM-HYPHEN m → JA-char z → JA-form (a ∷ (m ++ (z ∷ [])))
     -- ALNUM *(JA-char / ALNUM-HYPHEN) JA-char *(JA-char / ALNUM-HYPHEN) ALNUM
-    form-4 : {a j z : ℕ} {m n : List ℕ} → ALNUM a → Star JA-or-ALNUM-HYPHEN m → JA-char j → Star JA-or-ALNUM-HYPHEN n → ALNUM z
-        → JA-form (a ∷ ((m ++ j ∷ n) ++ (z ∷ [])))
+    form-4 : {a j z : ℕ} {m n : List ℕ} → ALNUM a → Star JA-or-ALNUM-HYPHEN m → JA-char j
+        → Star JA-or-ALNUM-HYPHEN n → ALNUM z → JA-form (a ∷ ((m ++ j ∷ n) ++ (z ∷ [])))
 
   -- JA-label: one of the four; 1 to 15 characters; it is not, as a whole, an EXCEPTION-STRING
   pub data JA-label : List ℕ → Type 0 where
@@ -87,10 +89,11 @@ module _ (P : Permits) where
   -- general-use name (document 003) = label ".JP"; prefecture-JPDN = label "." prefecture-label ".JP"
   pub data Derives : Class → List ℕ → Type 0 where
     general : {l : List ℕ} → label l → Derives General (l ++ 0x2E ∷ 0x6A ∷ 0x70 ∷ [])
-    prefecture : {l m : List ℕ} → label l → prefecture-label m → Derives Prefecture (l ++ 0x2E ∷ (m ++ 0x2E ∷ 0x6A ∷ 0x70 ∷ []))
+    prefecture : {l m : List ℕ} → label l → prefecture-label m
+        → Derives Prefecture (l ++ 0x2E ∷ (m ++ 0x2E ∷ 0x6A ∷ 0x70 ∷ []))
 
--- what a text must be to be a name of class k: 1 to 256 code points, and its normal form derives as one. No derivable name is lost to
--- the limit (proofs/Exactly)
+-- what a text must be to be a name of class k: 1 to 256 code points, and its normal form derives as one. No derivable
+-- name is lost to the limit (proofs/Exactly)
 pub record Granted (P : Permits) (k : Class) (text : List ℕ) : Type 0 where
   pub some : 1 ≤ length text
   pub few : length text ≤ 256

@@ -1,5 +1,6 @@
--- Whether a text may yet become a name by the rules of document 01 (specs/Rules): what is meant, and how it is found. The two are the
--- same (proofs/Hopeful). Reserved and taken names are not asked about: document 01, 'The work and its edges', leaves them outside.
+-- Whether a text may yet become a name by the rules of document 01 (specs/Rules): what is meant, and how it is found.
+-- The two are the same (proofs/Hopeful). Reserved and taken names are not asked about: document 01, 'The work and its
+-- edges', leaves them outside.
 use mathlib.Core.Bool.{Bool, true, false, not, _&&_, _||_}
 use mathlib.Core.List.{List, [], _∷_, _++_}
 use mathlib.Core.Path.{_≡_}
@@ -12,7 +13,7 @@ use Rattle.characters.specs.Characters.{asciiSet}
 use Rattle.characters.specs.Compose.{composed}
 use Rattle.normal.specs.Normal.{normalForm}
 use Rattle.rules.specs.Labels.{labels}
-use Rattle.rules.specs.Permits.{Permits, middle, Laws}
+use Rattle.rules.specs.Permits.{Permits, jaChar, middle, Laws}
 use Rattle.rules.specs.Rules.{unfit, labelRows, jp, rules}
 
 -- ---- what is meant
@@ -39,8 +40,8 @@ filler = 0x3042
 unfoldable pub tries : List (List ℕ)
 tries = [] ∷ (filler ∷ []) ∷ (0x61 ∷ []) ∷ []
 
--- one label: with what is tried it is a leftmost label; two: a leftmost label, and the beginning of "jp" or of a prefecture label; three: a
--- leftmost label, a prefecture label, and the beginning of "jp"
+-- one label: with what is tried it is a leftmost label; two: a leftmost label, and the beginning of "jp" or of a
+-- prefecture label; three: a leftmost label, a prefecture label, and the beginning of "jp"
 unfoldable pub grows : Permits → List (List ℕ) → Bool
 grows P [] = false
 grows P (l ∷ []) = anyOf (λ (r : List ℕ). leftmost P (l ++ r)) tries
@@ -65,5 +66,5 @@ pub record HopeLaws (P : Permits) : Type 0 where
   -- each prefecture label is of such characters
   pub middle-settled : allOf (allOf settled) (P .middles) ≡ true
   -- the hiragana that is tried, and whatever a mark joins, are Japanese
-  pub tried : P .japanese filler ≡ true
-  pub bases : (b m : ℕ) → (composed b m ≡ 0 → ⊥) → P .japanese b ≡ true
+  pub tried : jaChar P filler ≡ true
+  pub bases : (b m : ℕ) → (composed b m ≡ 0 → ⊥) → jaChar P b ≡ true

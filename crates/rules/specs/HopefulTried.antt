@@ -4,16 +4,17 @@ use mathlib.Core.Bool.{Bool, true, false}
 use mathlib.Core.List.{List, [], _∷_, _++_}
 use Prim.Native.Nat.{ℕ}
 use lib.ListN.{replicate}
-use Rattle.lists.specs.Tests.{within, allOf, anyOf, firstOf, elem, same}
+use Rattle.lists.specs.Tests.{within, allOf, anyOf, indexOf, elem, same}
 use Rattle.lists.specs.Rows.{first}
 use Rattle.characters.specs.Kanji.{kanji}
 use Rattle.characters.specs.Characters.{alnum, hyphen, asciiSet, hiragana, katakana, signs, japaneseBy, japanese}
 use Rattle.characters.specs.Replace.{ranges, rangeIn, halfKana, isHalf, replaceIn, replace}
 use Rattle.characters.specs.Compose.{voiced, repeats, halfVoiced, eitherKana, composed}
 use Rattle.normal.specs.Normal.{replacedFrom, compose, normalPlaced, normalForm, places}
-use Rattle.rules.specs.Labels.{period, onto, labels}
-use Rattle.rules.specs.Permits.{labelChar, middle, isEmpty}
-use Rattle.rules.specs.Rules.{unfit, middleDot, ordinary, isJapanese, beginsWithHyphen, endsWithHyphen, hyphenEdge, short, long, bareDot, labelRows, jp}
+use Rattle.rules.specs.Labels.{period, intoFirst, labels}
+use Rattle.rules.specs.Permits.{jaChar, labelChar, middle, isEmpty}
+use Rattle.rules.specs.Rules.{unfit, middleDot, ordinary, isJapanese, beginsWithHyphen, endsWithHyphen}
+use Rattle.rules.specs.Rules.{hyphenEdge, short, long, bareDot, labelRows, jp}
 use Rattle.rules.specs.Prefectures.{prefectures}
 use Rattle.rules.specs.Editions.{today}
 use Rattle.rules.specs.Hopeful.{begins, leftmost, tries, grows, hopeful}
@@ -72,5 +73,9 @@ no =
     []
 
 pub tried-hopeful : (says yes ≡ replicate 16 true) × (says no ≡ replicate 15 false)
-unfolding within allOf anyOf firstOf elem same first kanji alnum hyphen asciiSet hiragana katakana signs japaneseBy japanese ranges rangeIn halfKana isHalf replaceIn replace voiced repeats halfVoiced eitherKana composed replacedFrom compose normalPlaced normalForm places period onto labels labelChar isEmpty unfit middleDot ordinary isJapanese beginsWithHyphen endsWithHyphen hyphenEdge short long bareDot labelRows jp prefectures middle today begins leftmost tries grows hopeful
+unfolding within allOf anyOf indexOf elem same first kanji alnum hyphen asciiSet hiragana katakana signs japaneseBy
+    japanese ranges rangeIn halfKana isHalf replaceIn replace voiced repeats halfVoiced eitherKana composed replacedFrom
+    compose normalPlaced normalForm places period intoFirst labels jaChar labelChar isEmpty unfit middleDot ordinary
+    isJapanese beginsWithHyphen endsWithHyphen hyphenEdge short long bareDot labelRows jp prefectures middle today
+    begins leftmost tries grows hopeful
 tried-hopeful = (refl, refl)

@@ -9,13 +9,13 @@ unfoldable pub period : ℕ → Bool
 period c = eqb c 0x2E
 
 -- a character put before the first label
-unfoldable pub onto : ℕ → List (List ℕ) → List (List ℕ)
-onto x [] = (x ∷ []) ∷ []
-onto x (l ∷ ls) = (x ∷ l) ∷ ls
+unfoldable pub intoFirst : ℕ → List (List ℕ) → List (List ℕ)
+intoFirst x [] = (x ∷ []) ∷ []
+intoFirst x (l ∷ ls) = (x ∷ l) ∷ ls
 
 unfoldable pub labels : List ℕ → List (List ℕ)
 labels [] = [] ∷ []
-labels (x ∷ xs) = pick (period x) ([] ∷ labels xs) (onto x (labels xs))
+labels (x ∷ xs) = pick (period x) ([] ∷ labels xs) (intoFirst x (labels xs))
 
 -- labels joined by periods
 unfoldable pub join : List (List ℕ) → List ℕ

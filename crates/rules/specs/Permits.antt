@@ -16,9 +16,13 @@ pub record Permits : Type 0 where
   -- whether a name may have three labels
   pub three : Bool
 
+-- a Japanese character of the edition (document 01, 'Characters'); asked here alone
+unfoldable pub jaChar : Permits → ℕ → Bool
+jaChar P c = P .japanese c
+
 -- what a label may hold
 unfoldable pub labelChar : Permits → ℕ → Bool
-labelChar P c = P .japanese c || asciiSet c
+labelChar P c = jaChar P c || asciiSet c
 
 -- one of its prefecture labels
 unfoldable pub middle : Permits → List ℕ → Bool
@@ -28,14 +32,21 @@ unfoldable pub isEmpty : List ℕ → Bool
 isEmpty [] = true
 isEmpty (x ∷ xs) = false
 
+-- where the Japanese characters stand: none is of the ASCII set or a period, and each is a scalar value
+abbrev pub InStretch : Permits → Type 0
+InStretch P = (c : ℕ) → jaChar P c ≡ true → within 0x3003 0x9FA0 c ≡ true
+
+-- each prefecture label has at most 15 characters
+abbrev pub ShortMiddles : Permits → Type 0
+ShortMiddles P = allOf (λ (l : List ℕ). leb (length l) 15) (P .middles) ≡ true
+
 -- what the theorems ask of an edition
 pub record Laws (P : Permits) : Type 0 where
-  -- the stretch of the Japanese characters: none is of the ASCII set or a period, and each is a scalar value
-  pub stretch : (c : ℕ) → P .japanese c ≡ true → within 0x3003 0x9FA0 c ≡ true
-  -- each prefecture label holds only what a label may hold, is not empty, and is short: so that no derivable name is lost to the
-  -- limit of 256 code points, and so that each can be encoded
+  pub stretch : InStretch P
+  -- each prefecture label holds only what a label may hold, is not empty, and is short: so that no derivable name is
+  -- lost to the limit of 256 code points, and so that each can be encoded
   pub middle-chars : allOf (allOf (labelChar P)) (P .middles) ≡ true
   pub middle-filled : allOf (λ (l : List ℕ). not (isEmpty l)) (P .middles) ≡ true
-  pub middle-short : allOf (λ (l : List ℕ). leb (length l) 15) (P .middles) ≡ true
+  pub middle-short : ShortMiddles P
   -- where there is one, a name may have three labels
   pub middle-three : (l : List ℕ) → middle P l ≡ true → P .three ≡ true

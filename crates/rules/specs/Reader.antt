@@ -1,12 +1,12 @@
--- The second reader of labels, as document 004 is written: one rule stands after a letter, digit or Japanese character, the
--- other after a hyphen, each handing the rest of the label to the other.
+-- The second reader of labels, as document 004 is written: one rule stands after a letter, digit or Japanese
+-- character, the other after a hyphen, each handing the rest of the label to the other.
 use mathlib.Core.Bool.{Bool, false, not, _&&_, _||_}
 use mathlib.Core.List.{List, [], _∷_}
 use Prim.Native.Nat.{ℕ, _+_}
 use lib.Dec.{ltb}
 use Rattle.lists.specs.Tests.{pick}
 use Rattle.characters.specs.Characters.{hyphen}
-use Rattle.rules.specs.Permits.{Permits, labelChar}
+use Rattle.rules.specs.Permits.{Permits, jaChar, labelChar}
 use Rattle.rules.specs.Rules.{middleDot, ordinary}
 use Rattle.rules.specs.declared.Seen.{Seen}
 
@@ -15,7 +15,12 @@ nothing = record { count = 0; ja = false; dot = false; ordinary = false }
 
 -- one character more, and a hyphen more
 unfoldable pub note : Permits → Seen → ℕ → Seen
-note P s x = record { count = s .count + 1; ja = s .ja || P .japanese x; dot = s .dot || middleDot x; ordinary = s .ordinary || ordinary P x }
+note P s x = record {
+  count = s .count + 1;
+  ja = s .ja || jaChar P x;
+  dot = s .dot || middleDot x;
+  ordinary = s .ordinary || ordinary P x;
+}
 
 unfoldable pub skip : Seen → Seen
 skip s = record { count = s .count + 1; ja = s .ja; dot = s .dot; ordinary = s .ordinary }
@@ -30,11 +35,13 @@ ending s = lengthFits (s .count) (s .ja) && not (s .dot && not (s .ordinary))
 unfoldable mutual
   pub afterCharacter : Permits → List ℕ → Seen → Bool
   afterCharacter P [] s = ending s
-  afterCharacter P (x ∷ xs) s = pick (hyphen x) (afterHyphen P xs (skip s)) (pick (labelChar P x) (afterCharacter P xs (note P s x)) false)
+  afterCharacter P (x ∷ xs) s =
+      pick (hyphen x) (afterHyphen P xs (skip s)) (pick (labelChar P x) (afterCharacter P xs (note P s x)) false)
 
   pub afterHyphen : Permits → List ℕ → Seen → Bool
   afterHyphen P [] s = false
-  afterHyphen P (x ∷ xs) s = pick (hyphen x) (afterHyphen P xs (skip s)) (pick (labelChar P x) (afterCharacter P xs (note P s x)) false)
+  afterHyphen P (x ∷ xs) s =
+      pick (hyphen x) (afterHyphen P xs (skip s)) (pick (labelChar P x) (afterCharacter P xs (note P s x)) false)
 
 unfoldable pub reader : Permits → List ℕ → Bool
 reader P [] = false

@@ -1,31 +1,38 @@
 -- The starred names of document 01, 'Tried names', as one table under one statement.
 use mathlib.Core.Path.{_≡_, refl}
-use mathlib.Core.List.{List, [], _∷_}
+use mathlib.Core.List.{List, [], _∷_, map}
 use Prim.Native.Nat.{ℕ}
-use Rattle.lists.specs.Tests.{within, allOf, anyOf, firstOf, elem, same}
+use Rattle.lists.specs.Tests.{within, allOf, anyOf, indexOf, elem, same}
 use Rattle.lists.specs.Rows.{first}
 use Rattle.characters.specs.Kanji.{kanji}
 use Rattle.characters.specs.Characters.{alnum, hyphen, asciiSet, hiragana, katakana, signs, japaneseBy, japanese}
 use Rattle.characters.specs.Replace.{ranges, rangeIn, halfKana, isHalf, replaceIn, replace}
 use Rattle.characters.specs.Compose.{voiced, repeats, halfVoiced, eitherKana, composed}
 use Rattle.normal.specs.Normal.{replacedFrom, compose, normalPlaced, normalForm, places}
-use Rattle.rules.specs.Labels.{period, onto, labels}
-use Rattle.rules.specs.Permits.{labelChar, middle, isEmpty}
-use Rattle.rules.specs.Rules.{unfit, middleDot, ordinary, isJapanese, beginsWithHyphen, endsWithHyphen, hyphenEdge, short, long, bareDot, labelRows, jp, nameRows, textRows, classOf, verdict, rules, accepted}
+use Rattle.rules.specs.Labels.{period, intoFirst, labels}
+use Rattle.rules.specs.Permits.{jaChar, labelChar, middle, isEmpty}
+use Rattle.rules.specs.Rules.{unfit, middleDot, ordinary, isJapanese, beginsWithHyphen, endsWithHyphen}
+use Rattle.rules.specs.Rules.{hyphenEdge, short, long, bareDot, labelRows, jp, nameRows, frontRows, textRows}
+use Rattle.rules.specs.Rules.{classOf, verdict, rules, accepted, refused}
 use Rattle.rules.specs.Prefectures.{prefectures}
 use Rattle.rules.specs.Editions.{today}
 use Rattle.rules.specs.declared.Class.{Class}
-use Rattle.rules.specs.declared.Class.the-variants.{None, General, Prefecture}
+use Rattle.rules.specs.declared.Verdict.{Verdict}
+use Rattle.rules.specs.declared.Class.the-variants.{General, Prefecture}
 
 -- a text that is accepted, with its class and its normal form, or refused, with its number and its place
 pub data Case : Type 0 where
   accepts : List ℕ → Class → List ℕ → Case
   refuses : List ℕ → ℕ → ℕ → Case
 
-abbrev pub Holds : List Case → Type 0
-Holds [] = Unit {0}
-Holds (accepts text k form ∷ cs) = (rules today text ≡ accepted k) × (normalForm text ≡ form) × Holds cs
-Holds (refuses text n p ∷ cs) = (rules today text ≡ record { number = n; place = p; class = None }) × Holds cs
+-- what is said of its text, and the normal form where that is asked; and what ought to be
+abbrev said : Case → Verdict × List ℕ
+said (accepts text k form) = (rules today text, normalForm text)
+said (refuses text n p) = (rules today text, [])
+
+abbrev meant : Case → Verdict × List ℕ
+meant (accepts text k form) = (accepted k, form)
+meant (refuses text n p) = (refused n p, [])
 
 abbrev dotJp : List ℕ
 dotJp = 0x2E ∷ 0x6A ∷ 0x70 ∷ []
@@ -54,10 +61,15 @@ table =
     refuses (0x61 ∷ 0x62 ∷ 0x63 ∷ 0x2E ∷ 0x6A ∷ 0x70 ∷ 0x2E ∷ []) 6 2 ∷
     refuses (0x6A ∷ 0x70 ∷ []) 5 0 ∷
     -- abc.tokyo.jp; abc.tokio.jp
-    accepts (0x61 ∷ 0x62 ∷ 0x63 ∷ 0x2E ∷ 0x74 ∷ 0x6F ∷ 0x6B ∷ 0x79 ∷ 0x6F ∷ dotJp) Prefecture (0x61 ∷ 0x62 ∷ 0x63 ∷ 0x2E ∷ 0x74 ∷ 0x6F ∷ 0x6B ∷ 0x79 ∷ 0x6F ∷ dotJp) ∷
+    accepts (0x61 ∷ 0x62 ∷ 0x63 ∷ 0x2E ∷ 0x74 ∷ 0x6F ∷ 0x6B ∷ 0x79 ∷ 0x6F ∷ dotJp) Prefecture
+    (0x61 ∷ 0x62 ∷ 0x63 ∷ 0x2E ∷ 0x74 ∷ 0x6F ∷ 0x6B ∷ 0x79 ∷ 0x6F ∷ dotJp) ∷
     refuses (0x61 ∷ 0x62 ∷ 0x63 ∷ 0x2E ∷ 0x74 ∷ 0x6F ∷ 0x6B ∷ 0x69 ∷ 0x6F ∷ dotJp) 12 0 ∷
     []
 
-pub tried : Holds table
-unfolding within allOf anyOf firstOf elem same first kanji alnum hyphen asciiSet hiragana katakana signs japaneseBy japanese ranges rangeIn halfKana isHalf replaceIn replace voiced repeats halfVoiced eitherKana composed replacedFrom compose normalPlaced normalForm places period onto labels labelChar isEmpty unfit middleDot ordinary isJapanese beginsWithHyphen endsWithHyphen hyphenEdge short long bareDot labelRows jp nameRows textRows classOf verdict rules prefectures middle today
-tried = (refl, refl, (refl, refl, (refl, (refl, refl, (refl, refl, (refl, (refl, (refl, refl, (refl, refl, (refl, (refl, (refl, (refl, refl, (refl, tt))))))))))))))
+pub tried : map said table ≡ map meant table
+unfolding within allOf anyOf indexOf elem same first kanji alnum hyphen asciiSet hiragana katakana signs japaneseBy
+    japanese ranges rangeIn halfKana isHalf replaceIn replace voiced repeats halfVoiced eitherKana composed replacedFrom
+    compose normalPlaced normalForm places period intoFirst labels jaChar labelChar isEmpty unfit middleDot ordinary
+    isJapanese beginsWithHyphen endsWithHyphen hyphenEdge short long bareDot labelRows jp nameRows frontRows textRows
+    classOf verdict rules prefectures middle today
+tried = refl

@@ -28,16 +28,25 @@ const RANGES: [(u32, u32); 15] = [
 
 pub fn add(file: &mut CaseFile) {
     file.add::<u32>('K', 0, &[]);
-    let ends = RANGES.iter().flat_map(|(first, last)| [*first, *last]);
-    let picked: Vec<u32> = ends.chain(SIGNS).chain(edges()).collect();
-    kinds(file, picked.iter().flat_map(|code| [code.wrapping_sub(1), *code, code.wrapping_add(1)]));
-    // Numbers whose lower half is a character's.
-    let characters = [0x2D, 0x2E, 0x37, 0x41, 0x7A, 0x3042, 0x30AB, 0x30FB, 0x4E9C, 0x4EDD, 0xFF0D, 0xFF71];
-    let high = [0x1_0000, 0x10_0000, 0x100_0000, 0x8000_0000, 0xFFFF_0000];
-    kinds(file, high.iter().flat_map(|high| characters.map(|low| high | low)));
+    kinds(file, borders().into_iter());
+    kinds(file, alike().into_iter());
     kinds(file, (0..0x80).chain(0xFEFE..0x1_0002));
     kinds(file, (0x4DFE..=0x9FA2).step_by(7));
     pairs(file);
+}
+
+/// Both ends of every range, the signs and other edges, with their neighbours.
+pub fn borders() -> Vec<u32> {
+    let ends = RANGES.iter().flat_map(|(first, last)| [*first, *last]);
+    let picked = ends.chain(SIGNS).chain(edges());
+    picked.flat_map(|code| [code.wrapping_sub(1), code, code.wrapping_add(1)]).collect()
+}
+
+/// Numbers whose lower half is a character's.
+pub fn alike() -> Vec<u32> {
+    let characters = [0x2D, 0x2E, 0x37, 0x41, 0x7A, 0x3042, 0x30AB, 0x30FB, 0x4E9C, 0x4EDD, 0xFF0D, 0xFF71];
+    let high = [0x1_0000, 0x10_0000, 0x100_0000, 0x8000_0000, 0xFFFF_0000];
+    high.iter().flat_map(|high| characters.map(|low| high | low)).collect()
 }
 
 fn kinds(file: &mut CaseFile, codes: impl Iterator<Item = u32>) {

@@ -6,6 +6,7 @@ pub mod coder;
 pub mod desk;
 pub mod hope;
 pub mod kinds;
+pub mod labels;
 pub mod lines;
 pub mod lists;
 pub mod names;
@@ -113,5 +114,6 @@ pub fn all_lines() -> Vec<String> {
     kinds::add(&mut file);
     lists::add(&mut file);
     octets::add(&mut file);
+    labels::add(&mut file);
     file.into_lines()
 }

@@ -41,13 +41,4 @@ returns-3 c = simp (sym (c .before .between .ensures) ∙ c .if1 .left)
 pub is-kanji-spec : {M : Type 1} → statement M
 is-kanji-spec =
     tie.close
-    (tie.spec
-    between-requires
-    sub-i
-    cast-word
-    mul-bit
-    shared-slice-read-bit
-    bit-requires
-    returns
-    returns-2
-    returns-3)
+    (tie.spec between-requires sub-i cast-word mul-bit shared-slice-read-bit bit-requires returns returns-2 returns-3)

@@ -70,24 +70,6 @@ returns-7 c = found _ (c .before .before .class-of .ensures) (c .enum-told7 .giv
 pub replaced-by-class-spec : {M : Type 1} → statement M
 replaced-by-class-spec =
     tie.close
-    (tie.spec
-    class-of-requires
-    enum-told
-    add-result
-    enum-told-2
-    add-result-2
-    enum-told-3
-    enum-told-4
-    enum-told-5
-    sub-half-at
-    cast-half-at
-    half-at-requires
-    enum-told-6
-    enum-told-7
-    returns
-    returns-2
-    returns-3
-    returns-4
-    returns-5
-    returns-6
-    returns-7)
+    (tie.spec class-of-requires enum-told add-result enum-told-2 add-result-2 enum-told-3 enum-told-4 enum-told-5
+    sub-half-at cast-half-at half-at-requires enum-told-6 enum-told-7 returns returns-2 returns-3 returns-4 returns-5
+    returns-6 returns-7)

@@ -60,14 +60,5 @@ returns-4 c = simp (
 pub voice-spec : {M : Type 1} → statement M
 voice-spec =
     tie.close
-    (tie.spec
-    slice-aggregate-of-either-kana
-    of-either-kana-requires
-    add-result
-    returns
-    slice-aggregate-holds
-    holds-requires
-    add-result-2
-    returns-2
-    returns-3
-    returns-4)
+    (tie.spec slice-aggregate-of-either-kana of-either-kana-requires add-result returns slice-aggregate-holds
+    holds-requires add-result-2 returns-2 returns-3 returns-4)

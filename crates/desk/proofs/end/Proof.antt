@@ -2,7 +2,7 @@
 -- Assumes nothing.
 use mathlib.Core.Path.{refl, _∙_}
 use native.Mathlib.Omega.{arith}
-use Rattle.batch.proofs.Lent.{fits}
+use Rattle.lists.proofs.Pieces.{puts-inside}
 use Rattle.desk.proofs.Pieces.{handed, at-end}
 use borrow.Author.Needs.{needs}
 use Rattle.desk.proofs.end.Statement.{statement}
@@ -18,7 +18,7 @@ part-write-start : tie.Need-part-write-start
 part-write-start c = search needs
 
 part-write-end : tie.Need-part-write-end
-part-write-end c = omega (arith, fits (c .before .before .before .finish-with .ensures .text))
+part-write-end c = omega (arith, puts-inside (c .before .before .before .finish-with .ensures .text))
 
 write-requires : tie.Need-write-requires
 write-requires c κs = search needs
@@ -30,16 +30,9 @@ returns : tie.Need-returns
 returns c =
     let p = c .before .before .before .before .before .before .before .before .before .pre in
     let f = c .before .before .before .before .before .finish-with .ensures in
-    record { line = refl; handed = c .write .ensures ∙ handed _ (fits (f .text)) ∙ at-end (p .0) (p .1) f }
+    record { line = refl; handed = c .write .ensures ∙ handed _ (puts-inside (f .text)) ∙ at-end (p .0) (p .1) f }
 
 pub end-spec : {M : Type 1} → statement M
 end-spec =
     tie.close
-    (tie.spec
-    finish-with-requires
-    sub-write
-    part-write-start
-    part-write-end
-    write-requires
-    same-length
-    returns)
+    (tie.spec finish-with-requires sub-write part-write-start part-write-end write-requires same-length returns)

@@ -73,23 +73,6 @@ returns-2 c = λ e. let d = ends (c .before .loop .inv .2) (c .loop-test .left) 
 pub feed-all-spec : {M : Type 1} → statement M
 feed-all-spec =
     tie.close
-    (tie.spec
-    Inv-loop
-    μ-loop
-    loop-holds
-    sub-feed-with
-    part-feed-with-start
-    part-feed-with-end
-    feed-with-requires
-    sub-write
-    part-write-start
-    part-write-end
-    write-requires
-    same-length
-    returns
-    add-count
-    add-at
-    loop-less
-    loop-again
-    same-length-2
-    returns-2)
+    (tie.spec Inv-loop μ-loop loop-holds sub-feed-with part-feed-with-start part-feed-with-end feed-with-requires
+    sub-write part-write-start part-write-end write-requires same-length returns add-count add-at loop-less loop-again
+    same-length-2 returns-2)

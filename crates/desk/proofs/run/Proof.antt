@@ -5,7 +5,7 @@ use mathlib.Core.Bool.{false≢true}
 use lib.ListN.{length}
 use Prim.Native.Nat.{_≤_}
 use Rattle.characters.specs.KanjiBits.{kanjiBits}
-use Rattle.batch.specs.Stream.{most}
+use Rattle.answer.specs.Answers.{most}
 use Rattle.desk.proofs.Pieces.{of-its-line}
 use borrow.Author.Needs.{needs}
 use borrow.Author.Tests.{not-true}
@@ -100,32 +100,7 @@ returns-4 c = λ e. absurd (false≢true (sym (c .stopped2 .ensures) ∙ e))
 pub run-spec : {M : Type 1} → statement M
 run-spec =
     tie.close
-    (tie.spec
-    Inv-loop
-    μ-loop
-    new-requires
-    loop-holds
-    read-requires
-    stopped-requires
-    same-length
-    same-length-2
-    returns
-    count-requires
-    end-requires
-    same-length-3
-    same-length-4
-    returns-2
-    sub-feed-all
-    part-feed-all-start
-    part-feed-all-end
-    feed-all-requires
-    same-length-5
-    same-length-6
-    returns-3
-    sub-turns
-    loop-less
-    loop-again
-    stopped-requires-2
-    same-length-7
-    same-length-8
-    returns-4)
+    (tie.spec Inv-loop μ-loop new-requires loop-holds read-requires stopped-requires same-length same-length-2 returns
+    count-requires end-requires same-length-3 same-length-4 returns-2 sub-feed-all part-feed-all-start part-feed-all-end
+    feed-all-requires same-length-5 same-length-6 returns-3 sub-turns loop-less loop-again stopped-requires-2
+    same-length-7 same-length-8 returns-4)

@@ -52,17 +52,5 @@ returns-3 c = same-end _ _ (c .before .loop .i) (c .before .loop .inv .1) (omega
 pub same-spec : {M : Type 1} → statement M
 same-spec =
     tie.close
-    (tie.spec
-    Inv-loop
-    μ-loop
-    returns
-    loop-holds
-    mul-if2
-    shared-slice-read-if2
-    mul-if2-2
-    shared-slice-read-if2-2
-    returns-2
-    add-i
-    loop-less
-    loop-again
-    returns-3)
+    (tie.spec Inv-loop μ-loop returns loop-holds mul-if2 shared-slice-read-if2 mul-if2-2 shared-slice-read-if2-2
+    returns-2 add-i loop-less loop-again returns-3)

@@ -78,26 +78,6 @@ returns c = filled (c .before .loop .inv) (omega arith) (omega arith)
 pub fill-spec : {M : Type 1} → statement M
 fill-spec =
     tie.close
-    (tie.spec
-    Inv-loop
-    μ-loop
-    shared-slice-read-replaced
-    replaced-requires
-    loop-holds
-    mul-raw
-    shared-slice-read-raw
-    replaced-requires-2
-    joined-requires
-    add-i
-    mul-out
-    slice-write-out
-    add-n
-    loop-less
-    loop-again
-    loop-less-2
-    loop-again-2
-    mul-out-2
-    slice-write-out-2
-    add-result
-    same-length
-    returns)
+    (tie.spec Inv-loop μ-loop shared-slice-read-replaced replaced-requires loop-holds mul-raw shared-slice-read-raw
+    replaced-requires-2 joined-requires add-i mul-out slice-write-out add-n loop-less loop-again loop-less-2
+    loop-again-2 mul-out-2 slice-write-out-2 add-result same-length returns)

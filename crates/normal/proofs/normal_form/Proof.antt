@@ -1,7 +1,8 @@
 -- `normal_form` meets its contract: each refusal comes before the first write.
 -- Assumes nothing.
 use native.Mathlib.Omega.{arith}
-use Rattle.normal.proofs.Answers.{no-room, no-text, too-long, written-whole}
+use Rattle.lists.proofs.Pieces.{puts-count, puts-written}
+use Rattle.normal.proofs.Answers.{no-room, no-text, too-long, written-full}
 use borrow.Author.Needs.{needs}
 use Rattle.normal.proofs.normal_form.Statement.{statement}
 use Rattle.normal.proofs.normal_form.Tie as tie
@@ -22,7 +23,11 @@ same-length : tie.Need-same-length
 same-length c = search needs
 
 returns-4 : tie.Need-returns-4
-returns-4 c = written-whole _ _ (c .before .before .before .before .before .before .if1 .left) (c .before .before .before .before .before .if2 .left) (c .before .before .before .before .if3 .left) (c .before .before .fill .ensures)
+returns-4 c =
+    let filled = c .before .before in
+    let fit = filled .before .before in
+    written-full _ _ (fit .before .before .if1 .left) (fit .before .if2 .left) (fit .if3 .left)
+    (puts-count (filled .fill .ensures)) (puts-written (filled .fill .ensures))
 
 pub normal-form-spec : {M : Type 1} → statement M
 normal-form-spec =

@@ -68,23 +68,6 @@ returns-4 c = none-there (c .before .before .loop .inv) (omega arith) (c .if4 .l
 pub place-of-spec : {M : Type 1} → statement M
 place-of-spec =
     tie.close
-    (tie.spec
-    Inv-loop
-    μ-loop
-    returns
-    shared-slice-read-replaced
-    replaced-requires
-    loop-holds
-    mul-replaced
-    shared-slice-read-replaced-2
-    replaced-requires-2
-    joined-requires
-    add-i
-    returns-2
-    add-n
-    loop-less
-    loop-again
-    loop-less-2
-    loop-again-2
-    returns-3
-    returns-4)
+    (tie.spec Inv-loop μ-loop returns shared-slice-read-replaced replaced-requires loop-holds mul-replaced
+    shared-slice-read-replaced-2 replaced-requires-2 joined-requires add-i returns-2 add-n loop-less loop-again
+    loop-less-2 loop-again-2 returns-3 returns-4)

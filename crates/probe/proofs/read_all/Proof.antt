@@ -70,24 +70,6 @@ returns-2 c = search needs
 pub read-all-spec : {M : Type 1} → statement M
 read-all-spec =
     tie.close
-    (tie.spec
-    Inv-loop
-    μ-loop
-    loop-holds
-    read-requires
-    count-requires
-    same-length
-    same-length-2
-    same-length-3
-    returns
-    sub-take
-    part-take-start
-    part-take-end
-    take-requires
-    sub-turns
-    loop-less
-    loop-again
-    same-length-4
-    same-length-5
-    same-length-6
-    returns-2)
+    (tie.spec Inv-loop μ-loop loop-holds read-requires count-requires same-length same-length-2 same-length-3 returns
+    sub-take part-take-start part-take-end take-requires sub-turns loop-less loop-again same-length-4 same-length-5
+    same-length-6 returns-2)

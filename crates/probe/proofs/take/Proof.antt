@@ -43,15 +43,5 @@ returns c = search needs
 pub take-spec : {M : Type 1} → statement M
 take-spec =
     tie.close
-    (tie.spec
-    Inv-loop
-    μ-loop
-    loop-holds
-    shared-slice-read-take-byte
-    take-byte-requires
-    add-i
-    loop-less
-    loop-again
-    same-length
-    same-length-2
-    returns)
+    (tie.spec Inv-loop μ-loop loop-holds shared-slice-read-take-byte take-byte-requires add-i loop-less loop-again
+    same-length same-length-2 returns)

@@ -11,17 +11,17 @@ use Rattle.punycode.proofs.Answers.{from-start, decodes-small, decodes-
 use Rattle.punycode.proofs.decode.Statement.{statement}
 use Rattle.punycode.proofs.decode.Tie as tie
 
-refused-requires : tie.Need-refused-requires
-refused-requires c κs = search needs
+refused-octets-requires : tie.Need-refused-octets-requires
+refused-octets-requires c κs = search needs
 
 returns : tie.Need-returns
-returns c = decodes-small (c .before .before .before .before .args .octets .now) _ _ (c .before .if1 .taken) (c .refused .ensures)
+returns c = decodes-small (c .before .before .before .before .args .octets .now) _ _ (c .before .if1 .taken) (c .refused-octets .ensures)
 
-refused-requires-2 : tie.Need-refused-requires-2
-refused-requires-2 c κs = search needs
+refused-octets-requires-2 : tie.Need-refused-octets-requires-2
+refused-octets-requires-2 c κs = search needs
 
 returns-2 : tie.Need-returns-2
-returns-2 c = decodes-long (c .before .before .before .before .before .args .octets .now) _ _ (c .before .before .if1 .left) (c .before .if2 .taken) (c .refused2 .ensures)
+returns-2 c = decodes-long (c .before .before .before .before .before .args .octets .now) _ _ (c .before .before .if1 .left) (c .before .if2 .taken) (c .refused-octets2 .ensures)
 
 slice-aggregate-lowers : tie.Need-slice-aggregate-lowers
 slice-aggregate-lowers c = search needs
@@ -44,8 +44,8 @@ slice-aggregate-found c = search needs
 found-requires : tie.Need-found-requires
 found-requires c κs = search needs
 
-refused-requires-3 : tie.Need-refused-requires-3
-refused-requires-3 c κs = search needs
+refused-octets-requires-3 : tie.Need-refused-octets-requires-3
+refused-octets-requires-3 c κs = search needs
 
 returns-3 : tie.Need-returns-3
 returns-3 c =
@@ -54,7 +54,7 @@ returns-3 c =
     let low = w .last .1 .0 in
     let octets = c .before .before .before .before .before .before .before .before .before .before .before .before .before .before .args .octets .now in
     decodes-left octets _ _ (c .before .before .before .before .before .before .before .before .before .before .before .if1 .left) _ _ (ap found (sym (from-start (length octets) low ∙ w .ensures)) ∙ f .ensures .1)
-    (not-true _ (c .before .if3 .taken)) (c .refused3 .ensures)
+    (not-true _ (c .before .if3 .taken)) (c .refused-octets3 .ensures)
 
 sub-copy : tie.Need-sub-copy
 sub-copy c = search needs
@@ -85,23 +85,6 @@ returns-4 c =
 pub decode-spec : {M : Type 1} → statement M
 decode-spec =
     tie.close
-    (tie.spec
-    refused-requires
-    returns
-    refused-requires-2
-    returns-2
-    slice-aggregate-lowers
-    lowers-requires
-    sub-found
-    part-found-start
-    part-found-end
-    slice-aggregate-found
-    found-requires
-    refused-requires-3
-    returns-3
-    sub-copy
-    part-copy-start
-    part-copy-end
-    copy-requires
-    same-length
-    returns-4)
+    (tie.spec refused-octets-requires returns refused-octets-requires-2 returns-2 slice-aggregate-lowers lowers-requires
+    sub-found part-found-start part-found-end slice-aggregate-found found-requires refused-octets-requires-3 returns-3
+    sub-copy part-copy-start part-copy-end copy-requires same-length returns-4)

@@ -11,17 +11,17 @@ use Rattle.batch.proofs.stream.carried.Statement.{statement}
 use Rattle.batch.proofs.stream.carried.Tie as tie
 
 abbrev Inv-loop : tie.InvT-loop
-Inv-loop s held₀ n₀ i₀ held n i =
-    (i ≤ length s) × (pushedAll (record { held = held₀; n = n₀ }) s ≡ pushedAll (record { held = held; n = n }) (drop i s))
+Inv-loop piece held₀ count₀ i₀ held count i =
+    (i ≤ length piece) × (pushedAll (record { held = held₀; n = count₀ }) piece ≡ pushedAll (record { held = held; n = count }) (drop i piece))
 
 abbrev μ-loop : tie.MeasureT-loop
-μ-loop s held₀ n₀ i₀ held n i = length s - i
+μ-loop piece held₀ count₀ i₀ held count i = length piece - i
 
 loop-holds : tie.Need-loop-holds Inv-loop μ-loop
 loop-holds c = (omega arith, refl)
 
-shared-slice-read-b : tie.Need-shared-slice-read-b Inv-loop μ-loop
-shared-slice-read-b c = search needs
+shared-slice-read-byte : tie.Need-shared-slice-read-byte Inv-loop μ-loop
+shared-slice-read-byte c = search needs
 
 add-i : tie.Need-add-i Inv-loop μ-loop
 add-i c = search needs
@@ -29,8 +29,8 @@ add-i c = search needs
 array-write-held : tie.Need-array-write-held Inv-loop μ-loop
 array-write-held c = search needs
 
-add-n : tie.Need-add-n Inv-loop μ-loop
-add-n c = search needs
+add-count : tie.Need-add-count Inv-loop μ-loop
+add-count c = search needs
 
 loop-less : tie.Need-loop-less Inv-loop μ-loop
 loop-less c = search needs
@@ -38,10 +38,10 @@ loop-less c = search needs
 loop-again : tie.Need-loop-again Inv-loop μ-loop
 loop-again c =
     let l = c .before .before .before .loop in
-    (omega arith, l .inv .1 ∙ push-short _ (record { held = l .held; n = l .n }) (l .i) (c .before .before .loop-test .taken) (c .if1 .taken))
+    (omega arith, l .inv .1 ∙ push-short _ (record { held = l .held; n = l .count }) (l .i) (c .before .before .loop-test .taken) (c .if1 .taken))
 
-add-n-2 : tie.Need-add-n-2 Inv-loop μ-loop
-add-n-2 c = search needs
+add-count-2 : tie.Need-add-count-2 Inv-loop μ-loop
+add-count-2 c = search needs
 
 loop-less-2 : tie.Need-loop-less-2 Inv-loop μ-loop
 loop-less-2 c = search needs
@@ -49,7 +49,7 @@ loop-less-2 c = search needs
 loop-again-2 : tie.Need-loop-again-2 Inv-loop μ-loop
 loop-again-2 c =
     let l = c .before .before .before .loop in
-    (omega arith, l .inv .1 ∙ push-over _ (record { held = l .held; n = l .n }) (l .i) (c .before .before .loop-test .taken) (c .if1 .left))
+    (omega arith, l .inv .1 ∙ push-over _ (record { held = l .held; n = l .count }) (l .i) (c .before .before .loop-test .taken) (c .if1 .left))
 
 returns : tie.Need-returns Inv-loop μ-loop
 returns c =
@@ -59,17 +59,5 @@ returns c =
 pub carried-spec : {M : Type 1} → statement M
 carried-spec =
     tie.close
-    (tie.spec
-    Inv-loop
-    μ-loop
-    loop-holds
-    shared-slice-read-b
-    add-i
-    array-write-held
-    add-n
-    loop-less
-    loop-again
-    add-n-2
-    loop-less-2
-    loop-again-2
-    returns)
+    (tie.spec Inv-loop μ-loop loop-holds shared-slice-read-byte add-i array-write-held add-count loop-less loop-again
+    add-count-2 loop-less-2 loop-again-2 returns)

@@ -2,8 +2,8 @@
 -- Assumes nothing.
 use native.Mathlib.Omega.{arith}
 use Rattle.rules.specs.Editions.{todayWith}
-use Rattle.batch.specs.Answer.{answerTo, badAnswer}
-use Rattle.batch.proofs.Answering.{long-line}
+use Rattle.answer.specs.Answer.{answerTo, badAnswer}
+use Rattle.answer.proofs.Answering.{long-line}
 use Rattle.batch.proofs.Turns.{closes-short, closes-over}
 use borrow.Author.Needs.{needs}
 use Rattle.batch.proofs.stream.close.Statement.{statement}
@@ -48,14 +48,5 @@ returns-2 c =
 pub close-spec : {M : Type 1} → statement M
 close-spec =
     tie.close
-    (tie.spec
-    sub-answer-with
-    part-answer-with-start
-    part-answer-with-end
-    answer-with-requires
-    same-length
-    returns
-    slice-aggregate-answer-with
-    answer-with-requires-2
-    same-length-2
-    returns-2)
+    (tie.spec sub-answer-with part-answer-with-start part-answer-with-end answer-with-requires same-length returns
+    slice-aggregate-answer-with answer-with-requires-2 same-length-2 returns-2)

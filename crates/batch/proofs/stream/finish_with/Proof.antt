@@ -2,7 +2,7 @@
 -- Assumes nothing.
 use native.Mathlib.Omega.{arith}
 use Rattle.rules.specs.Editions.{todayWith}
-use Rattle.batch.specs.Answer.{answerTo, badAnswer}
+use Rattle.answer.specs.Answer.{answerTo, badAnswer}
 use Rattle.batch.proofs.Feeding.{end-none, end-last}
 use borrow.Author.Needs.{needs}
 use Rattle.batch.proofs.stream.finish_with.Statement.{statement}

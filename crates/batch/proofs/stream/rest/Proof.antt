@@ -32,12 +32,5 @@ returns-2 c = rest-on _ _ _ (c .before .before .before .if1 .left) (c .before .b
 pub rest-spec : {M : Type 1} → statement M
 rest-spec =
     tie.close
-    (tie.spec
-    new-requires
-    returns
-    new-requires-2
-    sub-carried
-    part-carried-start
-    part-carried-end
-    carried-requires
+    (tie.spec new-requires returns new-requires-2 sub-carried part-carried-start part-carried-end carried-requires
     returns-2)

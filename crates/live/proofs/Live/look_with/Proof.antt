@@ -36,11 +36,5 @@ returns-2 c =
 pub look-with-spec : {M : Type 1} → statement M
 look-with-spec =
     tie.close
-    (tie.spec
-    too-long-requires
-    returns
-    sub-judge-with
-    part-judge-with-start
-    part-judge-with-end
-    judge-with-requires
+    (tie.spec too-long-requires returns sub-judge-with part-judge-with-start part-judge-with-end judge-with-requires
     returns-2)

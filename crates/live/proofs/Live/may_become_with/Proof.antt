@@ -33,10 +33,5 @@ returns-2 c =
 pub may-become-with-spec : {M : Type 1} → statement M
 may-become-with-spec =
     tie.close
-    (tie.spec
-    returns
-    sub-may-become-with
-    part-may-become-with-start
-    part-may-become-with-end
-    may-become-with-requires
+    (tie.spec returns sub-may-become-with part-may-become-with-start part-may-become-with-end may-become-with-requires
     returns-2)

@@ -40,13 +40,5 @@ returns-2 c = took refl (coded-yes _ _ _ _ (c .before .before .before .before .b
 pub put-coded-spec : {M : Type 1} → statement M
 put-coded-spec =
     tie.close
-    (tie.spec
-    sub-encode
-    part-encode-start
-    part-encode-end
-    encode-requires
-    same-length
-    returns
-    add-t7
-    same-length-2
+    (tie.spec sub-encode part-encode-start part-encode-end encode-requires same-length returns add-t7 same-length-2
     returns-2)

@@ -42,20 +42,20 @@ same-length : tie.Need-same-length Inv-loop μ-loop
 same-length c = c .before .before .before .before .put-label .kept .1 .1 .0 ∙ out-length _ (c .before .before .before .before .before .before .before .before .loop .inv) _ (c .before .before .before .before .before .before .before .label-end .ensures)
 
 returns : tie.Need-returns Inv-loop μ-loop
-returns c = turn-refused _ (c .before .before .before .before .before .before .before .before .loop .inv) _ (c .before .before .before .before .before .before .before .label-end .ensures) (c .before .before .before .before .put-label .ensures .tries) (not-true _ (c .if1 .taken))
+returns c = turn-refused _ (c .before .before .before .before .before .before .before .before .loop .inv) _ (c .before .before .before .before .before .before .before .label-end .ensures) (c .before .before .before .before .put-label .ensures .puts) (not-true _ (c .if1 .taken))
 
 same-length-2 : tie.Need-same-length-2 Inv-loop μ-loop
 same-length-2 c = c .before .before .before .before .before .put-label .kept .1 .1 .0 ∙ out-length _ (c .before .before .before .before .before .before .before .before .before .loop .inv) _ (c .before .before .before .before .before .before .before .before .label-end .ensures)
 
 returns-2 : tie.Need-returns-2 Inv-loop μ-loop
-returns-2 c = turn-last _ (c .before .before .before .before .before .before .before .before .before .loop .inv) _ (c .before .before .before .before .before .before .before .before .label-end .ensures) (c .before .before .before .before .before .put-label .ensures .tries) (not-false _ (c .before .if1 .left)) (c .if2 .taken)
+returns-2 c = turn-last _ (c .before .before .before .before .before .before .before .before .before .loop .inv) _ (c .before .before .before .before .before .before .before .before .label-end .ensures) (c .before .before .before .before .before .put-label .ensures .puts) (not-false _ (c .before .if1 .left)) (c .if2 .taken)
 
 slice-write-out : tie.Need-slice-write-out Inv-loop μ-loop
-slice-write-out c = period-room _ (c .before .before .before .before .before .before .before .before .before .loop .inv) _ (c .before .before .before .before .before .before .before .before .label-end .ensures) (c .before .before .before .before .before .put-label .ensures .tries) (not-false _ (c .before .if1 .left)) (c .before .before .before .before .before .put-label .kept .1 .1 .0)
+slice-write-out c = period-room _ (c .before .before .before .before .before .before .before .before .before .loop .inv) _ (c .before .before .before .before .before .before .before .before .label-end .ensures) (c .before .before .before .before .before .put-label .ensures .puts) (not-false _ (c .before .if1 .left)) (c .before .before .before .before .before .put-label .kept .1 .1 .0)
 
 add-at : tie.Need-add-at Inv-loop μ-loop
 add-at c =
-    let h = period-room _ (c .before .before .before .before .before .before .before .before .before .loop .inv) _ (c .before .before .before .before .before .before .before .before .label-end .ensures) (c .before .before .before .before .before .put-label .ensures .tries) (not-false _ (c .before .if1 .left)) (c .before .before .before .before .before .put-label .kept .1 .1 .0) in
+    let h = period-room _ (c .before .before .before .before .before .before .before .before .before .loop .inv) _ (c .before .before .before .before .before .before .before .before .label-end .ensures) (c .before .before .before .before .before .put-label .ensures .puts) (not-false _ (c .before .if1 .left)) (c .before .before .before .before .before .put-label .kept .1 .1 .0) in
     let s = c .before .before .before .before .before .put-label .kept .1 .1 .0 ∙ out-length _ (c .before .before .before .before .before .before .before .before .before .loop .inv) _ (c .before .before .before .before .before .before .before .before .label-end .ensures) in
     omega (arith, c .before .before .before .before .before .before .before .before .before .before .before .before .before .good .1 .1 .0)
 
@@ -67,29 +67,13 @@ loop-less c = let b = turn-bounds _ (c .before .before .before .before .before .
 
 loop-again : tie.Need-loop-again Inv-loop μ-loop
 loop-again c =
-    turn-on _ (c .before .before .before .before .before .before .before .before .before .loop .inv) _ (c .before .before .before .before .before .before .before .before .label-end .ensures) (c .before .before .before .before .before .put-label .ensures .tries) (not-false _ (c .before .if1 .left))
-    (period-room _ (c .before .before .before .before .before .before .before .before .before .loop .inv) _ (c .before .before .before .before .before .before .before .before .label-end .ensures) (c .before .before .before .before .before .put-label .ensures .tries) (not-false _ (c .before .if1 .left)) (c .before .before .before .before .before .put-label .kept .1 .1 .0))
+    turn-on _ (c .before .before .before .before .before .before .before .before .before .loop .inv) _ (c .before .before .before .before .before .before .before .before .label-end .ensures) (c .before .before .before .before .before .put-label .ensures .puts) (not-false _ (c .before .if1 .left))
+    (period-room _ (c .before .before .before .before .before .before .before .before .before .loop .inv) _ (c .before .before .before .before .before .before .before .before .label-end .ensures) (c .before .before .before .before .before .put-label .ensures .puts) (not-false _ (c .before .if1 .left)) (c .before .before .before .before .before .put-label .kept .1 .1 .0))
     (c .if2 .left)
 
 pub put-labels-spec : {M : Type 1} → statement M
 put-labels-spec =
     tie.close
-    (tie.spec
-    Inv-loop
-    μ-loop
-    loop-holds
-    label-end-requires
-    mul-put-label
-    sub-put-label
-    part-put-label-start
-    part-put-label-end
-    put-label-requires
-    same-length
-    returns
-    same-length-2
-    returns-2
-    slice-write-out
-    add-at
-    add-from
-    loop-less
-    loop-again)
+    (tie.spec Inv-loop μ-loop loop-holds label-end-requires mul-put-label sub-put-label part-put-label-start
+    part-put-label-end put-label-requires same-length returns same-length-2 returns-2 slice-write-out add-at add-from
+    loop-less loop-again)

@@ -28,9 +28,4 @@ returns c =
 pub to-ascii-spec : {M : Type 1} → statement M
 to-ascii-spec =
     tie.close
-    (tie.spec
-    kanji-bits-requires
-    slice-aggregate-to-ascii-with
-    to-ascii-with-requires
-    same-length
-    returns)
+    (tie.spec kanji-bits-requires slice-aggregate-to-ascii-with to-ascii-with-requires same-length returns)

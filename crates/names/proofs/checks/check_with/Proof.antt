@@ -1,16 +1,16 @@
 -- `check_with` meets its contract: 1, then what the judge says; its array holds what is written.
 -- Assumes nothing.
 use native.Mathlib.Omega.{arith}
-use Rattle.names.proofs.Answering.{passed, check-no-room, check-refused, check-accepted}
+use Rattle.names.proofs.Answering.{accepted-as, check-no-room, check-refused, check-accepted}
 use borrow.Author.Needs.{needs}
 use Rattle.names.proofs.checks.check_with.Statement.{statement}
 use Rattle.names.proofs.checks.check_with.Tie as tie
 
-refused-requires : tie.Need-refused-requires
-refused-requires c κs = search needs
+refused-check-requires : tie.Need-refused-check-requires
+refused-check-requires c κs = search needs
 
 returns : tie.Need-returns
-returns c = check-no-room _ _ _ (c .refused .ensures) (c .before .if1 .taken)
+returns c = check-no-room _ _ _ (c .refused-check .ensures) (c .before .if1 .taken)
 
 slice-aggregate-room : tie.Need-slice-aggregate-room
 slice-aggregate-room c = search needs
@@ -18,11 +18,11 @@ slice-aggregate-room c = search needs
 judge-into-requires : tie.Need-judge-into-requires
 judge-into-requires c κs = search needs
 
-refused-requires-2 : tie.Need-refused-requires-2
-refused-requires-2 c κs = search needs
+refused-check-requires-2 : tie.Need-refused-check-requires-2
+refused-check-requires-2 c κs = search needs
 
 returns-2 : tie.Need-returns-2
-returns-2 c = check-refused _ _ _ (c .before .before .before .before .before .before .before .before .before .if1 .left) (c .before .before .before .before .before .before .judge-into .ensures) (c .refused2 .ensures) (c .before .before .if2 .taken)
+returns-2 c = check-refused _ _ _ (c .before .before .before .before .before .before .before .before .before .if1 .left) (c .before .before .before .before .before .before .judge-into .ensures) (c .refused-check2 .ensures) (c .before .before .if2 .taken)
 
 sub-copy : tie.Need-sub-copy
 sub-copy c = search needs
@@ -31,7 +31,7 @@ part-copy-start : tie.Need-part-copy-start
 part-copy-start c = search needs
 
 part-copy-end : tie.Need-part-copy-end
-part-copy-end c = let p = passed _ _ (c .before .before .before .before .before .judge-into .ensures) (c .before .if2 .left) in omega (arith, p .few, c .before .before .before .before .before .judge-into .kept .1 .1 .0)
+part-copy-end c = let p = accepted-as _ _ (c .before .before .before .before .before .judge-into .ensures) (c .before .if2 .left) in omega (arith, p .few, c .before .before .before .before .before .judge-into .kept .1 .1 .0)
 
 copy-requires : tie.Need-copy-requires
 copy-requires c κs = search needs
@@ -45,16 +45,5 @@ returns-3 c = check-accepted _ _ _ (c .before .before .before .before .before .b
 pub check-with-spec : {M : Type 1} → statement M
 check-with-spec =
     tie.close
-    (tie.spec
-    refused-requires
-    returns
-    slice-aggregate-room
-    judge-into-requires
-    refused-requires-2
-    returns-2
-    sub-copy
-    part-copy-start
-    part-copy-end
-    copy-requires
-    same-length
-    returns-3)
+    (tie.spec refused-check-requires returns slice-aggregate-room judge-into-requires refused-check-requires-2 returns-2 sub-copy
+    part-copy-start part-copy-end copy-requires same-length returns-3)

@@ -3,8 +3,8 @@
 use mathlib.Core.Path.{sym, ap, _∙_}
 use native.Mathlib.Omega.{arith}
 use Rattle.rules.specs.Hopeful.{grows}
-use Rattle.names.proofs.OfName.{left-fit, one-is, two-is, three-is, more-is}
-use Rattle.names.proofs.Hoping.{only-fit, four-found}
+use Rattle.names.proofs.OfName.{one-is, two-is, three-is, more-is}
+use Rattle.names.proofs.Hoping.{four-found}
 use borrow.Author.Needs.{needs}
 use Rattle.names.proofs.hopes.form_grows.Statement.{statement}
 use Rattle.names.proofs.hopes.form_grows.Tie as tie
@@ -13,7 +13,7 @@ label-end-requires : tie.Need-label-end-requires
 label-end-requires c κs = search needs
 
 one-grows-requires : tie.Need-one-grows-requires
-one-grows-requires c κs = only-fit _ _ (one-is _ _ (c .before .label-end .ensures) (c .if1 .taken)) (c .before .before .before .before .pre)
+one-grows-requires c κs = search needs
 
 returns : tie.Need-returns
 returns c = c .one-grows .ensures ∙ ap (grows _) (sym (one-is _ _ (c .before .before .label-end .ensures) (c .before .if1 .taken)))
@@ -46,7 +46,7 @@ part-two-grow-end-2 : tie.Need-part-two-grow-end-2
 part-two-grow-end-2 c = search needs
 
 two-grow-requires : tie.Need-two-grow-requires
-two-grow-requires c κs = left-fit _ _ _ (c .before .before .before .before .before .label-end .ensures) (c .before .before .before .before .if1 .left) (c .before .before .before .before .before .before .before .before .pre)
+two-grow-requires c κs = search needs
 
 returns-2 : tie.Need-returns-2
 returns-2 c = c .two-grow .ensures ∙ ap (grows _) (sym (two-is _ _ (c .before .before .before .before .before .before .label-end .ensures) (omega arith) _ (c .before .before .before .before .label-end2 .ensures) (c .before .before .before .if2 .taken)))
@@ -91,7 +91,7 @@ part-three-grow-end-3 : tie.Need-part-three-grow-end-3
 part-three-grow-end-3 c = search needs
 
 three-grow-requires : tie.Need-three-grow-requires
-three-grow-requires c κs = left-fit _ _ _ (c .before .before .before .before .before .before .before .before .label-end .ensures) (c .before .before .before .before .before .before .before .if1 .left) (c .before .before .before .before .before .before .before .before .before .before .before .pre)
+three-grow-requires c κs = search needs
 
 returns-3 : tie.Need-returns-3
 returns-3 c = c .three-grow .ensures ∙ ap (grows _) (sym (three-is _ _ (c .before .before .before .before .before .before .before .before .before .label-end .ensures) (c .before .before .before .before .before .before .before .before .if1 .left) _ (c .before .before .before .before .before .before .before .label-end2 .ensures) (c .before .before .before .before .before .before .if2 .left) _ (c .before .before .before .before .before .label-end3 .ensures) (c .before .before .before .before .if3 .taken)))
@@ -102,34 +102,8 @@ returns-4 c = four-found _ _ _ (more-is _ _ (c .before .before .before .before .
 pub form-grows-spec : {M : Type 1} → statement M
 form-grows-spec =
     tie.close
-    (tie.spec
-    label-end-requires
-    one-grows-requires
-    returns
-    add-p
-    label-end-requires-2
-    sub-two-grow
-    part-two-grow-start
-    part-two-grow-end
-    mul-two-grow
-    sub-two-grow-2
-    part-two-grow-start-2
-    part-two-grow-end-2
-    two-grow-requires
-    returns-2
-    add-q
-    label-end-requires-3
-    sub-three-grow
-    part-three-grow-start
-    part-three-grow-end
-    mul-three-grow
-    sub-three-grow-2
-    part-three-grow-start-2
-    part-three-grow-end-2
-    mul-three-grow-2
-    sub-three-grow-3
-    part-three-grow-start-3
-    part-three-grow-end-3
-    three-grow-requires
-    returns-3
-    returns-4)
+    (tie.spec label-end-requires one-grows-requires returns add-p label-end-requires-2 sub-two-grow part-two-grow-start
+    part-two-grow-end mul-two-grow sub-two-grow-2 part-two-grow-start-2 part-two-grow-end-2 two-grow-requires returns-2
+    add-q label-end-requires-3 sub-three-grow part-three-grow-start part-three-grow-end mul-three-grow sub-three-grow-2
+    part-three-grow-start-2 part-three-grow-end-2 mul-three-grow-2 sub-three-grow-3 part-three-grow-start-3
+    part-three-grow-end-3 three-grow-requires returns-3 returns-4)

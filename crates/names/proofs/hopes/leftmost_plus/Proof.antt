@@ -24,8 +24,8 @@ mul-longer c = search needs
 array-write-longer : tie.Need-array-write-longer
 array-write-longer c = search needs
 
-slice-aggregate-whole : tie.Need-slice-aggregate-whole
-slice-aggregate-whole c = search needs
+slice-aggregate-buffer : tie.Need-slice-aggregate-buffer
+slice-aggregate-buffer c = search needs
 
 add-is-leftmost : tie.Need-add-is-leftmost
 add-is-leftmost c = search needs
@@ -40,11 +40,7 @@ part-is-leftmost-end : tie.Need-part-is-leftmost-end
 part-is-leftmost-end c = omega (arith, c .before .before .copy .kept .1 .0, length-set (c .before .before .copy .last .1 .0) (length (c .before .before .before .before .before .before .before .args .label .now)) (c .before .before .before .before .before .before .before .args .c))
 
 is-leftmost-requires : tie.Need-is-leftmost-requires
-is-leftmost-requires c κs =
-    let a = c .before .before .before .before .before .before .before .before .args in
-    let k = c .before .before .before .copy in
-    rw (with-more (a .label .now) (replicate 64 0) (k .last .1 .0) (a .c) (k .ensures) refl (c .before .before .before .before .before .if1 .left) (k .kept .1 .0))
-    (c .before .before .before .before .before .before .before .before .pre)
+is-leftmost-requires c κs = search needs
 
 returns-2 : tie.Need-returns-2
 returns-2 c =
@@ -56,16 +52,5 @@ returns-2 c =
 pub leftmost-plus-spec : {M : Type 1} → statement M
 leftmost-plus-spec =
     tie.close
-    (tie.spec
-    returns
-    slice-aggregate-copy
-    copy-requires
-    mul-longer
-    array-write-longer
-    slice-aggregate-whole
-    add-is-leftmost
-    sub-is-leftmost
-    part-is-leftmost-start
-    part-is-leftmost-end
-    is-leftmost-requires
-    returns-2)
+    (tie.spec returns slice-aggregate-copy copy-requires mul-longer array-write-longer slice-aggregate-buffer
+    add-is-leftmost sub-is-leftmost part-is-leftmost-start part-is-leftmost-end is-leftmost-requires returns-2)

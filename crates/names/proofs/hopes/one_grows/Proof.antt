@@ -1,9 +1,6 @@
 -- `one_grows` meets its contract: what is tried, in its order.
 -- Assumes nothing.
-use mathlib.Core.Path.{refl}
-use Rattle.lists.specs.Tests.{within}
-use Rattle.characters.specs.Characters.{alnum, asciiSet, hiragana}
-use Rattle.names.proofs.Hoping.{more-fits, one-now, one-hiragana, one-letter}
+use Rattle.names.proofs.Hoping.{one-now, one-hiragana, one-letter}
 use borrow.Author.Needs.{needs}
 use Rattle.names.proofs.hopes.one_grows.Statement.{statement}
 use Rattle.names.proofs.hopes.one_grows.Tie as tie
@@ -15,15 +12,13 @@ returns : tie.Need-returns
 returns c = one-now _ _ (c .before .is-leftmost .ensures) (c .if1 .taken)
 
 leftmost-plus-requires : tie.Need-leftmost-plus-requires
-unfolding hiragana asciiSet alnum within
-leftmost-plus-requires c κs = more-fits _ _ _ refl (c .before .before .before .before .pre)
+leftmost-plus-requires c κs = search needs
 
 returns-2 : tie.Need-returns-2
 returns-2 c = one-hiragana _ _ (c .before .before .before .is-leftmost .ensures) (c .before .before .if1 .left) (c .before .leftmost-plus .ensures) (c .if2 .taken)
 
 leftmost-plus-requires-2 : tie.Need-leftmost-plus-requires-2
-unfolding hiragana asciiSet alnum within
-leftmost-plus-requires-2 c κs = more-fits _ _ _ refl (c .before .before .before .before .before .before .pre)
+leftmost-plus-requires-2 c κs = search needs
 
 returns-3 : tie.Need-returns-3
 returns-3 c = one-letter _ _ (c .before .before .before .before .is-leftmost .ensures) (c .before .before .before .if1 .left) (c .before .before .leftmost-plus .ensures) (c .before .if2 .left) (c .leftmost-plus2 .ensures)
@@ -31,10 +26,4 @@ returns-3 c = one-letter _ _ (c .before .before .before .before .is-leftmost .en
 pub one-grows-spec : {M : Type 1} → statement M
 one-grows-spec =
     tie.close
-    (tie.spec
-    is-leftmost-requires
-    returns
-    leftmost-plus-requires
-    returns-2
-    leftmost-plus-requires-2
-    returns-3)
+    (tie.spec is-leftmost-requires returns leftmost-plus-requires returns-2 leftmost-plus-requires-2 returns-3)

@@ -27,10 +27,4 @@ returns-3 c = three-last _ _ _ _ (c .before .before .before .before .is-leftmost
 pub three-grow-spec : {M : Type 1} → statement M
 three-grow-spec =
     tie.close
-    (tie.spec
-    is-leftmost-requires
-    returns
-    is-prefecture-requires
-    returns-2
-    begins-jp-requires
-    returns-3)
+    (tie.spec is-leftmost-requires returns is-prefecture-requires returns-2 begins-jp-requires returns-3)

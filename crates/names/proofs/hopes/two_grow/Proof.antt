@@ -26,10 +26,4 @@ returns-3 c = two-middle _ _ _ (c .before .before .before .before .is-leftmost .
 pub two-grow-spec : {M : Type 1} → statement M
 two-grow-spec =
     tie.close
-    (tie.spec
-    is-leftmost-requires
-    returns
-    begins-jp-requires
-    returns-2
-    begins-prefecture-requires
-    returns-3)
+    (tie.spec is-leftmost-requires returns begins-jp-requires returns-2 begins-prefecture-requires returns-3)

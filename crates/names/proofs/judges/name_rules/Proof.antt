@@ -2,7 +2,7 @@
 -- Assumes nothing.
 use mathlib.Core.Path.{_∙_}
 use native.Mathlib.Omega.{arith}
-use Rattle.names.proofs.OfName.{left-fit, one-label, two-labels, three-labels, more-labels}
+use Rattle.names.proofs.OfName.{one-label, two-labels, three-labels, more-labels}
 use borrow.Author.Needs.{needs}
 use Rattle.names.proofs.judges.name_rules.Statement.{statement}
 use Rattle.names.proofs.judges.name_rules.Tie as tie
@@ -44,7 +44,7 @@ part-two-labels-end-2 : tie.Need-part-two-labels-end-2
 part-two-labels-end-2 c = search needs
 
 two-labels-requires : tie.Need-two-labels-requires
-two-labels-requires c κs = left-fit _ _ _ (c .before .before .before .before .before .label-end .ensures) (c .before .before .before .before .if1 .left) (c .before .before .before .before .before .before .before .before .pre)
+two-labels-requires c κs = search needs
 
 returns-2 : tie.Need-returns-2
 returns-2 c = two-labels _ _ _ (c .before .before .before .before .before .before .label-end .ensures) (omega arith) _ (c .before .before .before .before .label-end2 .ensures) (c .before .before .before .if2 .taken) (c .two-labels .ensures)
@@ -89,7 +89,7 @@ part-three-labels-end-3 : tie.Need-part-three-labels-end-3
 part-three-labels-end-3 c = search needs
 
 three-labels-requires : tie.Need-three-labels-requires
-three-labels-requires c κs = left-fit _ _ _ (c .before .before .before .before .before .before .before .before .label-end .ensures) (c .before .before .before .before .before .before .before .if1 .left) (c .before .before .before .before .before .before .before .before .before .before .before .pre)
+three-labels-requires c κs = search needs
 
 returns-3 : tie.Need-returns-3
 returns-3 c = three-labels _ _ _ (c .before .before .before .before .before .before .before .before .before .label-end .ensures) (c .before .before .before .before .before .before .before .before .if1 .left) _ (c .before .before .before .before .before .before .before .label-end2 .ensures) (c .before .before .before .before .before .before .if2 .left) _ (c .before .before .before .before .before .label-end3 .ensures) (c .before .before .before .before .if3 .taken) (c .three-labels .ensures)
@@ -103,35 +103,9 @@ returns-4 c = c .refused2 .ensures ∙ more-labels _ _ _ (c .before .before .bef
 pub name-rules-spec : {M : Type 1} → statement M
 name-rules-spec =
     tie.close
-    (tie.spec
-    label-end-requires
-    refused-requires
-    returns
-    add-p
-    label-end-requires-2
-    sub-two-labels
-    part-two-labels-start
-    part-two-labels-end
-    mul-two-labels
-    sub-two-labels-2
-    part-two-labels-start-2
-    part-two-labels-end-2
-    two-labels-requires
-    returns-2
-    add-q
-    label-end-requires-3
-    sub-three-labels
-    part-three-labels-start
-    part-three-labels-end
-    mul-three-labels
-    sub-three-labels-2
-    part-three-labels-start-2
-    part-three-labels-end-2
-    mul-three-labels-2
-    sub-three-labels-3
-    part-three-labels-start-3
-    part-three-labels-end-3
-    three-labels-requires
-    returns-3
-    refused-requires-2
-    returns-4)
+    (tie.spec label-end-requires refused-requires returns add-p label-end-requires-2 sub-two-labels
+    part-two-labels-start part-two-labels-end mul-two-labels sub-two-labels-2 part-two-labels-start-2
+    part-two-labels-end-2 two-labels-requires returns-2 add-q label-end-requires-3 sub-three-labels
+    part-three-labels-start part-three-labels-end mul-three-labels sub-three-labels-2 part-three-labels-start-2
+    part-three-labels-end-2 mul-three-labels-2 sub-three-labels-3 part-three-labels-start-3 part-three-labels-end-3
+    three-labels-requires returns-3 refused-requires-2 returns-4)

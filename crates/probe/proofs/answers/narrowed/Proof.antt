@@ -52,18 +52,5 @@ returns-2 c = search needs
 pub narrowed-spec : {M : Type 1} → statement M
 narrowed-spec =
     tie.close
-    (tie.spec
-    Inv-loop
-    μ-loop
-    loop-holds
-    mul-x
-    shared-slice-read-x
-    same-length
-    returns
-    cast-octets
-    slice-write-octets
-    add-i
-    loop-less
-    loop-again
-    same-length-2
-    returns-2)
+    (tie.spec Inv-loop μ-loop loop-holds mul-x shared-slice-read-x same-length returns cast-octets slice-write-octets
+    add-i loop-less loop-again same-length-2 returns-2)

@@ -76,26 +76,6 @@ returns-3 c = search needs
 pub read-numbers-spec : {M : Type 1} → statement M
 read-numbers-spec =
     tie.close
-    (tie.spec
-    Inv-loop
-    μ-loop
-    loop-holds
-    add-a
-    word-end-requires
-    sub-value
-    part-value-start
-    part-value-end
-    value-requires
-    enum-known-x
-    enum-told
-    same-length
-    returns
-    same-length-2
-    returns-2
-    mul-to
-    slice-write-to
-    add-n
-    loop-less
-    loop-again
-    same-length-3
-    returns-3)
+    (tie.spec Inv-loop μ-loop loop-holds add-a word-end-requires sub-value part-value-start part-value-end
+    value-requires enum-known-x enum-told same-length returns same-length-2 returns-2 mul-to slice-write-to add-n
+    loop-less loop-again same-length-3 returns-3)

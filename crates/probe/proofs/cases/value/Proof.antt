@@ -54,19 +54,5 @@ returns-4 c = search needs
 pub value-spec : {M : Type 1} → statement M
 value-spec =
     tie.close
-    (tie.spec
-    Inv-loop
-    μ-loop
-    zero-in-front-requires
-    returns
-    loop-holds
-    shared-slice-read-digit
-    digit-requires
-    returns-2
-    grown-requires
-    add-i
-    loop-less
-    loop-again
-    returns-3
-    cast-t16
-    returns-4)
+    (tie.spec Inv-loop μ-loop zero-in-front-requires returns loop-holds shared-slice-read-digit digit-requires returns-2
+    grown-requires add-i loop-less loop-again returns-3 cast-t16 returns-4)

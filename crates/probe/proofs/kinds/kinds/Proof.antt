@@ -49,17 +49,5 @@ returns c = search needs
 pub kinds-spec : {M : Type 1} → statement M
 kinds-spec =
     tie.close
-    (tie.spec
-    Inv-loop
-    μ-loop
-    loop-holds
-    put-gap-requires
-    mul-put-kind
-    shared-slice-read-put-kind
-    after-requires
-    put-kind-requires
-    add-i
-    loop-less
-    loop-again
-    same-length
-    returns)
+    (tie.spec Inv-loop μ-loop loop-holds put-gap-requires mul-put-kind shared-slice-read-put-kind after-requires
+    put-kind-requires add-i loop-less loop-again same-length returns)

@@ -42,15 +42,5 @@ returns-2 c = search needs
 pub codes-changed-spec : {M : Type 1} → statement M
 codes-changed-spec =
     tie.close
-    (tie.spec
-    Inv-loop
-    μ-loop
-    loop-holds
-    sub-i
-    mul-if1
-    shared-slice-read-if1
-    code-before-requires
-    returns
-    loop-less
-    loop-again
-    returns-2)
+    (tie.spec Inv-loop μ-loop loop-holds sub-i mul-if1 shared-slice-read-if1 code-before-requires returns loop-less
+    loop-again returns-2)

@@ -43,15 +43,5 @@ returns c = search needs
 pub fill-codes-spec : {M : Type 1} → statement M
 fill-codes-spec =
     tie.close
-    (tie.spec
-    Inv-loop
-    μ-loop
-    loop-holds
-    code-before-requires
-    mul-lent
-    slice-write-lent
-    add-i
-    loop-less
-    loop-again
-    same-length
-    returns)
+    (tie.spec Inv-loop μ-loop loop-holds code-before-requires mul-lent slice-write-lent add-i loop-less loop-again
+    same-length returns)

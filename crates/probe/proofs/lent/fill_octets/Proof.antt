@@ -40,14 +40,5 @@ returns c = search needs
 pub fill-octets-spec : {M : Type 1} → statement M
 fill-octets-spec =
     tie.close
-    (tie.spec
-    Inv-loop
-    μ-loop
-    loop-holds
-    octet-before-requires
-    slice-write-lent
-    add-i
-    loop-less
-    loop-again
-    same-length
+    (tie.spec Inv-loop μ-loop loop-holds octet-before-requires slice-write-lent add-i loop-less loop-again same-length
     returns)

@@ -39,14 +39,5 @@ returns-2 c = search needs
 pub octets-changed-spec : {M : Type 1} → statement M
 octets-changed-spec =
     tie.close
-    (tie.spec
-    Inv-loop
-    μ-loop
-    loop-holds
-    sub-i
-    shared-slice-read-if1
-    octet-before-requires
-    returns
-    loop-less
-    loop-again
+    (tie.spec Inv-loop μ-loop loop-holds sub-i shared-slice-read-if1 octet-before-requires returns loop-less loop-again
     returns-2)

@@ -49,17 +49,5 @@ returns c = search needs
 pub put-codes-spec : {M : Type 1} → statement M
 put-codes-spec =
     tie.close
-    (tie.spec
-    Inv-loop
-    μ-loop
-    codes-changed-requires
-    loop-holds
-    mul-put-entry
-    shared-slice-read-put-entry
-    code-before-requires
-    put-entry-requires
-    add-i
-    loop-less
-    loop-again
-    same-length
-    returns)
+    (tie.spec Inv-loop μ-loop codes-changed-requires loop-holds mul-put-entry shared-slice-read-put-entry
+    code-before-requires put-entry-requires add-i loop-less loop-again same-length returns)

@@ -19,17 +19,17 @@ octets-changed-requires c κs = search needs
 loop-holds : tie.Need-loop-holds Inv-loop μ-loop
 loop-holds c = search needs
 
-shared-slice-read-wide : tie.Need-shared-slice-read-wide Inv-loop μ-loop
-shared-slice-read-wide c = search needs
+shared-slice-read-as-number : tie.Need-shared-slice-read-as-number Inv-loop μ-loop
+shared-slice-read-as-number c = search needs
 
-wide-requires : tie.Need-wide-requires Inv-loop μ-loop
-wide-requires c κs = search needs
+as-number-requires : tie.Need-as-number-requires Inv-loop μ-loop
+as-number-requires c κs = search needs
 
 octet-before-requires : tie.Need-octet-before-requires Inv-loop μ-loop
 octet-before-requires c κs = search needs
 
-wide-requires-2 : tie.Need-wide-requires-2 Inv-loop μ-loop
-wide-requires-2 c κs = search needs
+as-number-requires-2 : tie.Need-as-number-requires-2 Inv-loop μ-loop
+as-number-requires-2 c κs = search needs
 
 put-entry-requires : tie.Need-put-entry-requires Inv-loop μ-loop
 put-entry-requires c κs = search needs
@@ -52,18 +52,5 @@ returns c = search needs
 pub put-octets-spec : {M : Type 1} → statement M
 put-octets-spec =
     tie.close
-    (tie.spec
-    Inv-loop
-    μ-loop
-    octets-changed-requires
-    loop-holds
-    shared-slice-read-wide
-    wide-requires
-    octet-before-requires
-    wide-requires-2
-    put-entry-requires
-    add-i
-    loop-less
-    loop-again
-    same-length
-    returns)
+    (tie.spec Inv-loop μ-loop octets-changed-requires loop-holds shared-slice-read-as-number as-number-requires
+    octet-before-requires as-number-requires-2 put-entry-requires add-i loop-less loop-again same-length returns)

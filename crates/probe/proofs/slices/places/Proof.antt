@@ -43,15 +43,5 @@ returns c = search needs
 pub places-spec : {M : Type 1} → statement M
 places-spec =
     tie.close
-    (tie.spec
-    Inv-loop
-    μ-loop
-    loop-holds
-    put-gap-requires
-    place-of-requires
-    put-decimal-requires
-    add-k
-    loop-less
-    loop-again
-    same-length
-    returns)
+    (tie.spec Inv-loop μ-loop loop-holds put-gap-requires place-of-requires put-decimal-requires add-k loop-less
+    loop-again same-length returns)

@@ -46,16 +46,5 @@ returns c = search needs
 pub put-held-spec : {M : Type 1} → statement M
 put-held-spec =
     tie.close
-    (tie.spec
-    Inv-loop
-    μ-loop
-    loop-holds
-    mul-holds
-    shared-slice-read-holds
-    holds-requires
-    put-flag-requires
-    add-i
-    loop-less
-    loop-again
-    same-length
-    returns)
+    (tie.spec Inv-loop μ-loop loop-holds mul-holds shared-slice-read-holds holds-requires put-flag-requires add-i
+    loop-less loop-again same-length returns)

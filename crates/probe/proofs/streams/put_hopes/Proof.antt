@@ -58,20 +58,6 @@ returns c = search needs
 pub put-hopes-spec : {M : Type 1} → statement M
 put-hopes-spec =
     tie.close
-    (tie.spec
-    Inv-loop
-    μ-loop
-    fresh-requires
-    may-become-with-requires
-    put-flag-requires
-    loop-holds
-    mul-step
-    shared-slice-read-step
-    step-requires
-    may-become-with-requires-2
-    put-flag-requires-2
-    add-i
-    loop-less
-    loop-again
-    same-length
-    returns)
+    (tie.spec Inv-loop μ-loop fresh-requires may-become-with-requires put-flag-requires loop-holds mul-step
+    shared-slice-read-step step-requires may-become-with-requires-2 put-flag-requires-2 add-i loop-less loop-again
+    same-length returns)

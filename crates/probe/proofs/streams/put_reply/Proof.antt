@@ -46,16 +46,5 @@ returns-2 c = search needs
 pub put-reply-spec : {M : Type 1} → statement M
 put-reply-spec =
     tie.close
-    (tie.spec
-    Inv-loop
-    μ-loop
-    loop-holds
-    same-length
-    returns
-    shared-slice-read-put-next
-    put-next-requires
-    add-i
-    loop-less
-    loop-again
-    same-length-2
-    returns-2)
+    (tie.spec Inv-loop μ-loop loop-holds same-length returns shared-slice-read-put-next put-next-requires add-i
+    loop-less loop-again same-length-2 returns-2)

@@ -49,17 +49,5 @@ returns c = search needs
 pub put-shown-spec : {M : Type 1} → statement M
 put-shown-spec =
     tie.close
-    (tie.spec
-    Inv-loop
-    μ-loop
-    shown-requires
-    loop-holds
-    put-byte-requires
-    mul-put-hex
-    shared-slice-read-put-hex
-    put-hex-requires
-    add-i
-    loop-less
-    loop-again
-    same-length
-    returns)
+    (tie.spec Inv-loop μ-loop shown-requires loop-holds put-byte-requires mul-put-hex shared-slice-read-put-hex
+    put-hex-requires add-i loop-less loop-again same-length returns)

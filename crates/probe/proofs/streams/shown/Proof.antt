@@ -39,14 +39,4 @@ returns-2 c = search needs
 pub shown-spec : {M : Type 1} → statement M
 shown-spec =
     tie.close
-    (tie.spec
-    Inv-loop
-    μ-loop
-    loop-holds
-    sub-i
-    mul-if1
-    shared-slice-read-if1
-    returns
-    loop-less
-    loop-again
-    returns-2)
+    (tie.spec Inv-loop μ-loop loop-holds sub-i mul-if1 shared-slice-read-if1 returns loop-less loop-again returns-2)

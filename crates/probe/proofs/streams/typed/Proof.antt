@@ -42,15 +42,5 @@ returns c = search needs
 pub typed-spec : {M : Type 1} → statement M
 typed-spec =
     tie.close
-    (tie.spec
-    Inv-loop
-    μ-loop
-    fresh-requires
-    loop-holds
-    mul-step
-    shared-slice-read-step
-    step-requires
-    add-i
-    loop-less
-    loop-again
-    returns)
+    (tie.spec Inv-loop μ-loop fresh-requires loop-holds mul-step shared-slice-read-step step-requires add-i loop-less
+    loop-again returns)

@@ -64,22 +64,6 @@ returns c = search needs
 pub whole-batch-spec : {M : Type 1} → statement M
 whole-batch-spec =
     tie.close
-    (tie.spec
-    Inv-loop
-    μ-loop
-    new-requires
-    loop-holds
-    piece-end-requires
-    sub-feed-with
-    part-feed-with-start
-    part-feed-with-end
-    feed-with-requires
-    put-reply-requires
-    piece-next-requires
-    loop-less
-    loop-again
-    finish-with-requires
-    put-reply-requires-2
-    same-length
-    same-length-2
-    returns)
+    (tie.spec Inv-loop μ-loop new-requires loop-holds piece-end-requires sub-feed-with part-feed-with-start
+    part-feed-with-end feed-with-requires put-reply-requires piece-next-requires loop-less loop-again
+    finish-with-requires put-reply-requires-2 same-length same-length-2 returns)

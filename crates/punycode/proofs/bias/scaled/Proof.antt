@@ -47,15 +47,5 @@ returns c = sym (adapt-end (c .before .loop .inv .0) (c .before .loop .k) (c .be
 pub scaled-spec : {M : Type 1} → statement M
 scaled-spec =
     tie.close
-    (tie.spec
-    Inv-loop
-    μ-loop
-    loop-holds
-    add-k
-    loop-less
-    loop-again
-    mul-result
-    add-result
-    div-result
-    add-result-2
+    (tie.spec Inv-loop μ-loop loop-holds add-k loop-less loop-again mul-result add-result div-result add-result-2
     returns)

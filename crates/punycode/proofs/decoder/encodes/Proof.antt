@@ -43,13 +43,5 @@ returns-3 c =
 pub encodes-spec : {M : Type 1} → statement M
 encodes-spec =
     tie.close
-    (tie.spec
-    returns
-    slice-aggregate-ace
-    ace-requires
-    returns-2
-    sub-same
-    part-same-start
-    part-same-end
-    same-requires
+    (tie.spec returns slice-aggregate-ace ace-requires returns-2 sub-same part-same-start part-same-end same-requires
     returns-3)

@@ -62,17 +62,5 @@ returns-3 c =
 pub found-spec : {M : Type 1} → statement M
 found-spec =
     tie.close
-    (tie.spec
-    returns
-    sub-procedure
-    part-procedure-start
-    part-procedure-end
-    procedure-requires
-    same-length
-    returns-2
-    sub-encodes
-    part-encodes-start
-    part-encodes-end
-    encodes-requires
-    same-length-2
-    returns-3)
+    (tie.spec returns sub-procedure part-procedure-start part-procedure-end procedure-requires same-length returns-2
+    sub-encodes part-encodes-start part-encodes-end encodes-requires same-length-2 returns-3)

@@ -57,18 +57,5 @@ returns c = let a = c .before .before .args in
 pub insert-spec : {M : Type 1} → statement M
 insert-spec =
     tie.close
-    (tie.spec
-    Inv-loop
-    μ-loop
-    loop-holds
-    mul-t
-    slice-read-t
-    mul-out
-    slice-write-out
-    add-j
-    loop-less
-    loop-again
-    mul-out-2
-    slice-write-out-2
-    same-length
-    returns)
+    (tie.spec Inv-loop μ-loop loop-holds mul-t slice-read-t mul-out slice-write-out add-j loop-less loop-again mul-out-2
+    slice-write-out-2 same-length returns)

@@ -42,13 +42,4 @@ returns c = let v = c .before .loop in (last-end (c .before .before .before .arg
 pub last-delimiter-spec : {M : Type 1} → statement M
 last-delimiter-spec =
     tie.close
-    (tie.spec
-    Inv-loop
-    μ-loop
-    loop-holds
-    shared-slice-read-mark
-    mark-requires
-    add-j
-    loop-less
-    loop-again
-    returns)
+    (tie.spec Inv-loop μ-loop loop-holds shared-slice-read-mark mark-requires add-j loop-less loop-again returns)

@@ -53,15 +53,5 @@ returns c = let v = c .before .loop in
 pub lowers-spec : {M : Type 1} → statement M
 lowers-spec =
     tie.close
-    (tie.spec
-    Inv-loop
-    μ-loop
-    loop-holds
-    shared-slice-read-lower
-    lower-requires
-    slice-write-out
-    add-j
-    loop-less
-    loop-again
-    same-length
-    returns)
+    (tie.spec Inv-loop μ-loop loop-holds shared-slice-read-lower lower-requires slice-write-out add-j loop-less
+    loop-again same-length returns)

@@ -110,20 +110,5 @@ returns-5 c =
 pub octet-spec : {M : Type 1} → statement M
 octet-spec =
     tie.close
-    (tie.spec
-    returns
-    value-requires
-    stopped-requires
-    returns-2
-    weighed-requires
-    add-i
-    stopped-requires-2
-    returns-3
-    threshold-requires
-    place-requires
-    same-length
-    returns-4
-    sub-t9
-    mul-t12
-    add-t13
-    returns-5)
+    (tie.spec returns value-requires stopped-requires returns-2 weighed-requires add-i stopped-requires-2 returns-3
+    threshold-requires place-requires same-length returns-4 sub-t9 mul-t12 add-t13 returns-5)

@@ -6,14 +6,14 @@ use native.Mathlib.Omega.{arith}
 use lib.ListN.{length, drop}
 use borrow.Author.Needs.{needs}
 use Rattle.punycode.specs.Decoding.{octets}
-use Rattle.punycode.specs.Inner.{read, Sound}
+use Rattle.punycode.specs.Inner.{read, Bounded}
 use Rattle.punycode.proofs.Machine.{octets-next, octets-end}
 use Rattle.punycode.proofs.decoder.octets.Statement.{statement}
 use Rattle.punycode.proofs.decoder.octets.Tie as tie
 
 abbrev Inv-loop : tie.InvT-loop
 Inv-loop e from out₀ t₀ j₀ out t j =
-    (from ≤ j) × (j ≤ length e) × (length out ≡ 64) × Sound t × (t .len ≤ j) × (t .k ≤ 36 + 36 * j)
+    (from ≤ j) × (j ≤ length e) × (length out ≡ 64) × Bounded t × (t .len ≤ j) × (t .k ≤ 36 + 36 * j)
     × (octets (drop j e) (read t out) ≡ octets (drop from e) (read t₀ out₀))
 
 abbrev μ-loop : tie.MeasureT-loop
@@ -59,14 +59,5 @@ returns c =
 pub octets-spec : {M : Type 1} → statement M
 octets-spec =
     tie.close
-    (tie.spec
-    Inv-loop
-    μ-loop
-    loop-holds
-    shared-slice-read-octet
-    octet-requires
-    add-j
-    loop-less
-    loop-again
-    same-length
+    (tie.spec Inv-loop μ-loop loop-holds shared-slice-read-octet octet-requires add-j loop-less loop-again same-length
     returns)

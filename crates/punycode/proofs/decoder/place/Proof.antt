@@ -91,20 +91,5 @@ returns-2 c =
 pub place-spec : {M : Type 1} → statement M
 place-spec =
     tie.close
-    (tie.spec
-    cast-len
-    add-len
-    div-m
-    add-m
-    stopped-requires
-    returns
-    rem-p
-    sub-adapt
-    adapt-requires
-    cast-insert
-    insert-requires
-    add-t13
-    add-t8
-    add-t14
-    same-length
-    returns-2)
+    (tie.spec cast-len add-len div-m add-m stopped-requires returns rem-p sub-adapt adapt-requires cast-insert
+    insert-requires add-t13 add-t8 add-t14 same-length returns-2)

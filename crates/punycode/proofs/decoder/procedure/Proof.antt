@@ -40,11 +40,5 @@ returns c =
 pub procedure-spec : {M : Type 1} → statement M
 procedure-spec =
     tie.close
-    (tie.spec
-    last-delimiter-requires
-    less-one-requires
-    widen-requires
-    octets-requires
-    ended-requires
-    same-length
+    (tie.spec last-delimiter-requires less-one-requires widen-requires octets-requires ended-requires same-length
     returns)

@@ -52,16 +52,5 @@ returns c = let v = c .before .loop in
 pub widen-spec : {M : Type 1} → statement M
 widen-spec =
     tie.close
-    (tie.spec
-    Inv-loop
-    μ-loop
-    loop-holds
-    shared-slice-read-out
-    cast-out
-    mul-out
-    slice-write-out
-    add-j
-    loop-less
-    loop-again
-    same-length
-    returns)
+    (tie.spec Inv-loop μ-loop loop-holds shared-slice-read-out cast-out mul-out slice-write-out add-j loop-less
+    loop-again same-length returns)

@@ -1,0 +1,124 @@
+-- Three digits say all of a number below 1,000, and no number or place of an answer is larger: a place is an index of a text of at
+-- most 256 code points, or of at most three labels, or 256 itself.
+-- Assumes nothing.
+use mathlib.Core.Path.{_≡_, refl, ap}
+use mathlib.Core.Bool.{Bool, true, false, _&&_, _||_}
+use mathlib.Core.List.{List, [], _∷_, _++_, map}
+use mathlib.Core.Logic.{⊎-elim}
+use Prim.Native.Nat.{ℕ, zero, suc, _+_, _/_, _≤_, _<_}
+use native.Mathlib.Omega.{arith}
+use lib.Dec.{eqb, leb, ltb}
+use lib.ListN.{length, getD}
+use borrow.Author.Tests.{le-leb, leb-true}
+use Rattle.lists.specs.Tests.{pick, allOf, anyOf, indexOf}
+use Rattle.lists.specs.Rows.{Row, row, first}
+use Rattle.lists.specs.declared.Answer.{Answer}
+use Rattle.lists.proofs.Laws.{both, lt-or-le, index-bound}
+use Rattle.lists.proofs.Tables.{of-two, of-rows}
+use Rattle.characters.specs.Compose.{composed}
+use Rattle.normal.specs.Normal.{Placed, placed, replacedFrom, compose, normalPlaced, normalForm, places}
+use Rattle.rules.specs.Labels.{labels}
+use Rattle.rules.specs.Permits.{Permits, isEmpty}
+use Rattle.rules.specs.Rules.{unfit, labelRows, nameRows, frontRows, textRows, verdict}
+use Rattle.rules.specs.declared.Verdict.{Verdict}
+use Rattle.rules.proofs.Derived.{two-or-three}
+use Rattle.rules.proofs.Steps.{front-3, name-5}
+use Rattle.names.specs.Calls.{uncoded, asciiRows}
+use Rattle.answer.specs.Answer.{decimal, reading}
+use Rattle.answer.proofs.Pieces.{one-digit, two-digits, three-digits}
+
+pub said-full : (n : ℕ) → n < 1000 → reading 0 (decimal n) ≡ n
+unfolding reading
+said-full n h =
+    ⊎-elim (λ a. rw (one-digit n a) (omega arith))
+    (λ a. ⊎-elim (λ b. rw (two-digits n a b) (omega arith)) (λ b. rw (three-digits n a b) (omega arith)) (lt-or-le (n / 10) 10))
+    (lt-or-le n 10)
+
+-- ---- where the characters of a normal form began
+
+abbrev early : ℕ → Placed → Bool
+early n p = leb (p .began) n
+
+replaced-early : (n i : ℕ) (cs : List ℕ) → i + length cs ≤ n → allOf (early n) (replacedFrom i cs) ≡ true
+unfolding allOf replacedFrom
+replaced-early n i [] h = refl
+replaced-early n i (c ∷ cs) h = rw (le-leb i n (omega arith)) (replaced-early n (suc i) cs (omega arith))
+
+composed-early : (n : ℕ) (ps : List Placed) → allOf (early n) ps ≡ true → allOf (early n) (compose ps) ≡ true
+unfolding allOf compose
+composed-early n [] e = refl
+composed-early n (x ∷ []) e = e
+composed-early n (b ∷ m ∷ rest) e =
+    let p = both (early n b) (allOf (early n) (m ∷ rest)) e in
+    let q = both (early n m) (allOf (early n) rest) (p .1) in
+    go (eqb (composed (b .code) (m .code)) 0) (p .0) (composed-early n (m ∷ rest) (p .1)) (composed-early n rest (q .1))
+  where
+    go : (t : Bool) → early n b ≡ true → allOf (early n) (compose (m ∷ rest)) ≡ true → allOf (early n) (compose rest) ≡ true
+        → allOf (early n) (pick t (b ∷ compose (m ∷ rest)) (placed (composed (b .code) (m .code)) (b .began) ∷ compose rest)) ≡ true
+    go true x y z = rw x y
+    go false x y z = rw x z
+
+entry-early : (n : ℕ) (ps : List Placed) (k : ℕ) → allOf (early n) ps ≡ true → getD (map (λ (p : Placed). p .began) ps) k 0 ≤ n
+unfolding allOf
+entry-early n [] k e = omega arith
+entry-early n (p ∷ ps) zero e = leb-true (p .began) n (both (early n p) (allOf (early n) ps) e .0)
+entry-early n (p ∷ ps) (suc k) e = entry-early n ps k (both (early n p) (allOf (early n) ps) e .1)
+
+began-inside : (text : List ℕ) (k : ℕ) → getD (places text) k 0 ≤ length text
+unfolding places normalPlaced
+began-inside text k =
+    entry-early (length text) (compose (replacedFrom 0 text)) k
+    (composed-early (length text) (replacedFrom 0 text) (replaced-early (length text) 0 text (omega arith)))
+
+-- ---- the rows
+
+abbrev Near : Answer → Type 0
+Near a = a .place ≤ 256
+
+-- every row is near, so the answer is
+all-near : (rows : List Row) → allOf (λ (r : Row). leb (r .place) 256) rows ≡ true → Near (first rows)
+all-near rows w = leb-true _ 256 (of-rows (λ (a : Answer). leb (a .place) 256) refl rows w)
+
+module _ (P : Permits) where
+  front-near : (text : List ℕ) → Near (first (frontRows P text))
+  unfolding frontRows allOf
+  front-near text = ⊎-elim (λ g. rw (front-3 P text (λ e. omega arith) g) (omega arith)) small (lt-or-le 256 (length text))
+    where
+      small : length text ≤ 256 → Near (first (frontRows P text))
+      small h = all-near (frontRows P text) (rw (le-leb (getD (places text) (indexOf (unfit P) (normalForm text)) 0) 256 (omega (arith, began-inside text (indexOf (unfit P) (normalForm text))))))
+
+  name-near : (ls : List (List ℕ)) → Near (first (nameRows P ls))
+  unfolding nameRows labelRows allOf verdict
+  name-near ls = go (eqb (length ls) 2 || (P .three && eqb (length ls) 3)) refl
+    where
+      few : eqb (length ls) 2 || (P .three && eqb (length ls) 3) ≡ true → indexOf isEmpty ls ≤ 256
+      few e = ⊎-elim (λ n. omega (arith, index-bound isEmpty ls)) (λ n. omega (arith, index-bound isEmpty ls)) (two-or-three (length ls) (P .three) e)
+
+      go : (b : Bool) → eqb (length ls) 2 || (P .three && eqb (length ls) 3) ≡ b → Near (first (nameRows P ls))
+      go true e = all-near (nameRows P ls) (rw (le-leb (indexOf isEmpty ls) 256 (few e)))
+      go false e = omega (arith, ap (λ (v : Verdict). v .place) (name-5 P ls e))
+
+pub place-bound : (P : Permits) (text : List ℕ) (room : ℕ) → first (asciiRows P text room) .place ≤ 256
+unfolding asciiRows textRows allOf
+place-bound P text room =
+    let ls = labels (normalForm text) in
+    of-two Near (row 1 (ltb room 192) 0 ∷ []) _ (all-near (row 1 (ltb room 192) 0 ∷ []) refl)
+    (of-two Near (frontRows P text ++ nameRows P ls) _ (of-two Near (frontRows P text) (nameRows P ls) (front-near P text) (name-near P ls))
+    (all-near (row 14 (anyOf (uncoded P) ls) 0 ∷ []) refl))
+
+-- 14 is the largest, and 16 that of a bad line
+pub number-bound : (P : Permits) (text : List ℕ) (room : ℕ) → first (asciiRows P text room) .number ≤ 14
+unfolding asciiRows textRows frontRows nameRows labelRows allOf
+number-bound P text room = leb-true _ 14 (of-rows (λ (a : Answer). leb (a .number) 14) refl (asciiRows P text room) refl)
+
+-- ---- so the digits of an answer say its number and its place
+
+module _ (P : Permits) (text : List ℕ) where
+  abbrev answered : Answer
+  answered = first (asciiRows P text 192)
+
+  pub number-said : reading 0 (decimal (answered .number)) ≡ answered .number
+  number-said = said-full (answered .number) (omega (arith, number-bound P text 192))
+
+  pub place-said : reading 0 (decimal (answered .place)) ≡ answered .place
+  place-said = said-full (answered .place) (omega (arith, place-bound P text 192))

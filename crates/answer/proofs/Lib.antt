@@ -1,0 +1,10 @@
+pub mod Parts
+mod Pieces
+pub mod Digits
+mod Placing
+pub mod Answering
+mod Reading
+mod UsualLine
+mod First
+pub mod Longest
+pub mod Unique

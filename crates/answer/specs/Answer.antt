@@ -1,0 +1,69 @@
+-- The answer to a line, as bytes: document 01, 'The batch'. It depends on that line's bytes alone.
+use mathlib.Core.Bool.{Bool, not, _||_}
+use mathlib.Core.List.{List, [], _∷_, _++_}
+use Prim.Native.Nat.{ℕ, zero, suc, _+_, _-_, _*_, _/_, _%_}
+use lib.Dec.{eqb, ltb}
+use lib.ListN.{length}
+use Rattle.lists.specs.Tests.{pick}
+use Rattle.lists.specs.Rows.{first}
+use Rattle.normal.specs.Normal.{normalForm}
+use Rattle.rules.specs.Labels.{labels}
+use Rattle.rules.specs.Permits.{Permits}
+use Rattle.rules.specs.Rules.{verdict}
+use Rattle.rules.specs.declared.Class.{Class}
+use Rattle.rules.specs.declared.Class.the-variants.{None, General, Prefecture}
+use Rattle.names.specs.Calls.{asciiRows, asciiForm}
+use Rattle.unicode.specs.Utf8.{decoded}
+use Rattle.lines.specs.Fields.{idOf, nameOf, oneTab, goodId}
+
+-- refusal 16: more than 1,024 bytes; not exactly one tab; an id not 1 to 32 letters, digits or hyphens; a name that is
+-- not well-formed UTF-8
+unfoldable pub badLine : List ℕ → Bool
+badLine line =
+    ltb 1024 (length line)
+    || (not (oneTab line)
+    || (not (goodId (idOf line))
+    || not (decoded (nameOf line) .ok)))
+
+-- ---- the answer line: id, number, place, class, ASCII form, tab-parted, LF
+
+-- a number in decimal digits; f bounds how many
+unfoldable pub decimalBy : ℕ → ℕ → List ℕ
+decimalBy zero n = []
+decimalBy (suc f) n =
+    let more = decimalBy f (n / 10) ++ ((0x30 + n % 10) ∷ []) in
+    pick (ltb n 10) ((0x30 + n) ∷ []) more
+
+unfoldable pub decimal : ℕ → List ℕ
+decimal n = decimalBy 3 n
+
+-- what digits say, after v: read so, the digits of an answer say its number and its place (proofs/Digits)
+unfoldable pub reading : ℕ → List ℕ → ℕ
+reading v [] = v
+reading v (d ∷ ds) = reading (v * 10 + (d - 0x30)) ds
+
+-- G, P or -
+unfoldable pub letter : Class → ℕ
+letter General = 0x47
+letter Prefecture = 0x50
+letter None = 0x2D
+
+unfoldable pub answerLine : List ℕ → ℕ → ℕ → Class → List ℕ → List ℕ
+answerLine id number place class form =
+    id ++ (0x09 ∷ []) ++ decimal number ++ (0x09 ∷ []) ++ decimal place ++ (0x09 ∷ [])
+    ++ (letter class ∷ []) ++ (0x09 ∷ []) ++ form ++ (0x0A ∷ [])
+
+-- with 16 the id is -
+unfoldable pub badAnswer : List ℕ
+badAnswer = answerLine (0x2D ∷ []) 16 0 None (0x2D ∷ [])
+
+-- number and place are those of the whole ASCII form, given room; class and form are - unless the number is 0
+unfoldable pub goodAnswer : Permits → List ℕ → List ℕ → List ℕ
+goodAnswer P id text =
+    let a = first (asciiRows P text 192) in
+    let v = verdict a (labels (normalForm text)) in
+    let form = pick (eqb (a .number) 0) (asciiForm P (normalForm text)) (0x2D ∷ []) in
+    answerLine id (v .number) (v .place) (v .class) form
+
+unfoldable pub answerTo : Permits → List ℕ → List ℕ
+answerTo P line = pick (badLine line) badAnswer (goodAnswer P (idOf line) (decoded (nameOf line) .codes))

@@ -1,0 +1,3 @@
+pub mod Answer
+pub mod Answers
+pub mod Usual

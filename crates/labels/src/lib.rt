@@ -1,0 +1,237 @@
+// One label of a normal form: where it ends, what may stand in it, and what rules 7 to 10 say of it, for every family of names. Each
+// call takes any slice and says all of its result. Its meaning is defined in `rules` (specs/Labels, Permits, Rules), and where a call
+// is told whether the label is Japanese, here in specs/Known.
+use lists::Answer;
+ghost use mathlib.Core.Path.{_≡_};
+ghost use mathlib.Core.Bool.{not, _&&_};
+ghost use Prim.Native.Nat.{_+_};
+ghost use lib.Dec.{ltb};
+ghost use lib.ListN.{drop};
+ghost use Rattle.lists.specs.Tests.{pick, indexOf, anyOf};
+ghost use Rattle.lists.specs.Rows.{first};
+ghost use Rattle.rules.specs.Labels.{period};
+ghost use Rattle.rules.specs.Permits.{jaChar, labelChar};
+ghost use Rattle.rules.specs.Rules.{unfit, ordinary, isJapanese, hyphenEdge, bareDot, labelRows};
+ghost use Rattle.rules.specs.Editions.{todayWith};
+ghost use Rattle.labels.specs.Known.{knownRows};
+
+// The numbers that rules 7 to 10 answer (document 01).
+const ACCEPTED: u8 = 0;
+
+const HYPHEN_EDGE: u8 = 7;
+
+const TOO_SHORT: u8 = 8;
+
+const TOO_LONG: u8 = 9;
+
+const BARE_DOT: u8 = 10;
+
+const PERIOD: u32 = 0x2E;
+
+const HYPHEN: u32 = 0x2D;
+
+const MIDDLE_DOT: u32 = 0x30FB;
+
+// The index of the first period from `from` on, or the length; `from` itself where it is past the end.
+pub fn label_end(text: &[u32], from: usize) -> usize
+    ensures { λ r. ⌜ r ≡ from + indexOf period (drop from (now (text .entry))) ⌝ }
+{
+    let mut i = from;
+    while i < text.len() {
+        if text[i] == PERIOD {
+            return i;
+        }
+        i += 1;
+    }
+    i
+}
+
+// A Japanese character? None stands below 3003.
+fn is_ja(kanji: &[u32], c: u32) -> bool
+    ensures { λ r. ⌜ r ≡ jaChar (todayWith (now (kanji .entry))) c ⌝ }
+{
+    if c < 0x3003 {
+        return false;
+    }
+    characters::is_japanese_with(kanji, c)
+}
+
+// May a label hold c? The ASCII set stands below 80.
+pub fn in_label_with(kanji: &[u32], c: u32) -> bool
+    ensures { λ r. ⌜ r ≡ labelChar (todayWith (now (kanji .entry))) c ⌝ }
+{
+    if c < 0x80 {
+        return characters::is_ascii(c);
+    }
+    characters::is_japanese_with(kanji, c)
+}
+
+fn is_unfit(kanji: &[u32], c: u32) -> bool
+    ensures { λ r. ⌜ r ≡ unfit (todayWith (now (kanji .entry))) c ⌝ }
+{
+    if c == PERIOD {
+        return false;
+    }
+    let fit = in_label_with(kanji, c);
+    !fit
+}
+
+// The index of the first character that is neither period nor may stand in a label, or the length.
+pub fn first_unfit_with(kanji: &[u32], form: &[u32]) -> usize
+    ensures { λ r. ⌜ r ≡ indexOf (unfit (todayWith (now (kanji .entry)))) (now (form .entry)) ⌝ }
+{
+    let mut i = 0;
+    while i < form.len() {
+        if is_unfit(kanji, form[i]) {
+            return i;
+        }
+        i += 1;
+    }
+    i
+}
+
+// Does the label hold a Japanese character?
+pub fn holds_japanese_with(kanji: &[u32], label: &[u32]) -> bool
+    ensures { λ r. ⌜ r ≡ isJapanese (todayWith (now (kanji .entry))) (now (label .entry)) ⌝ }
+{
+    let mut i = 0;
+    while i < label.len() {
+        if is_ja(kanji, label[i]) {
+            return true;
+        }
+        i += 1;
+    }
+    false
+}
+
+// A Japanese character other than 3006, 30FC and 30FB?
+pub fn is_ordinary_with(kanji: &[u32], c: u32) -> bool
+    ensures { λ r. ⌜ r ≡ ordinary (todayWith (now (kanji .entry))) c ⌝ }
+{
+    if c == 0x3006 {
+        return false;
+    }
+    if c == 0x30FC {
+        return false;
+    }
+    if c == MIDDLE_DOT {
+        return false;
+    }
+    is_ja(kanji, c)
+}
+
+fn any_ordinary(kanji: &[u32], label: &[u32]) -> bool
+    ensures { λ r. ⌜ r ≡ anyOf (ordinary (todayWith (now (kanji .entry)))) (now (label .entry)) ⌝ }
+{
+    let mut i = 0;
+    while i < label.len() {
+        if is_ordinary_with(kanji, label[i]) {
+            return true;
+        }
+        i += 1;
+    }
+    false
+}
+
+// A middle dot, and no Japanese character other than the three?
+fn has_bare_dot(kanji: &[u32], label: &[u32]) -> bool
+    ensures { λ r. ⌜ r ≡ bareDot (todayWith (now (kanji .entry))) (now (label .entry)) ⌝ }
+{
+    if lists::holds(label, MIDDLE_DOT) {
+        let helped = any_ordinary(kanji, label);
+        return !helped;
+    }
+    false
+}
+
+// The same of a label that is known to be Japanese or not: the middle dot is a Japanese character, so no ASCII label has one.
+fn is_bare(kanji: &[u32], label: &[u32], japanese: bool) -> bool
+    ensures { λ r. ⌜ r ≡ (japanese && bareDot (todayWith (now (kanji .entry))) (now (label .entry))) ⌝ }
+{
+    if japanese {
+        return has_bare_dot(kanji, label);
+    }
+    false
+}
+
+// Does it begin or end with a hyphen?
+fn has_edge(label: &[u32]) -> bool
+    ensures { λ r. ⌜ r ≡ hyphenEdge (now (label .entry)) ⌝ }
+{
+    let n = label.len();
+    if n == 0 {
+        return false;
+    }
+    if label[0] == HYPHEN {
+        return true;
+    }
+    label[n - 1] == HYPHEN
+}
+
+fn is_short(n: usize, japanese: bool, least: usize) -> bool
+    ensures { λ r. ⌜ r ≡ (not japanese && ltb n least) ⌝ }
+{
+    if japanese {
+        return false;
+    }
+    n < least
+}
+
+fn is_long(n: usize, japanese: bool) -> bool
+    ensures { λ r. ⌜ r ≡ ltb (pick japanese 15 63) n ⌝ }
+{
+    if japanese {
+        return 15 < n;
+    }
+    63 < n
+}
+
+// The first of 7 to 10 that applies to a label that is known to be Japanese or not; an ASCII one must have `least` characters, and
+// `at` is its place.
+pub fn known_rule_with(
+    kanji: &[u32],
+    label: &[u32],
+    japanese: bool,
+    least: usize,
+    at: usize,
+) -> Answer
+    ensures { λ r. ⌜ r ≡ first (knownRows (todayWith (now (kanji .entry))) japanese least (now (label .entry)) at) ⌝ }
+{
+    if has_edge(label) {
+        return Answer {
+            number: HYPHEN_EDGE,
+            place: at,
+        };
+    }
+    let n = label.len();
+    if is_short(n, japanese, least) {
+        return Answer {
+            number: TOO_SHORT,
+            place: at,
+        };
+    }
+    if is_long(n, japanese) {
+        return Answer {
+            number: TOO_LONG,
+            place: at,
+        };
+    }
+    if is_bare(kanji, label, japanese) {
+        return Answer {
+            number: BARE_DOT,
+            place: at,
+        };
+    }
+    Answer {
+        number: ACCEPTED,
+        place: 0,
+    }
+}
+
+// The same of any label.
+pub fn label_rule_with(kanji: &[u32], label: &[u32], least: usize, at: usize) -> Answer
+    ensures { λ r. ⌜ r ≡ first (labelRows (todayWith (now (kanji .entry))) least (now (label .entry)) at) ⌝ }
+{
+    let japanese = holds_japanese_with(kanji, label);
+    known_rule_with(kanji, label, japanese, least, at)
+}

@@ -1,0 +1,4 @@
+pub mod LineFields
+mod Taking
+pub mod OneTab
+pub mod Unique

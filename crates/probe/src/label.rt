@@ -1,0 +1,84 @@
+// The calls on one label.
+use crate::printed;
+
+// The number that its upper and its lower half make.
+fn of_halves(upper: u32, lower: u32) -> usize {
+    upper as usize * 0x100000000 + lower as usize
+}
+
+// What is said of a label: the first of 7 to 10 that applies, where one ends, its first unfit character, is it
+// Japanese?
+fn put_label(
+    kanji: &[u32],
+    label: &[u32],
+    from: usize,
+    least: usize,
+    at: usize,
+    out: &mut [u8],
+    o: usize,
+) -> usize {
+    let r = labels::label_rule_with(kanji, label, least, at);
+    let a = printed::put_number(out, o, r.number, r.place);
+    let b = printed::put_length(out, a, labels::label_end(label, from));
+    let c = printed::put_length(out, b, labels::first_unfit_with(kanji, label));
+    let d = printed::put_byte(out, c, b' ');
+    printed::put_flag(out, d, labels::holds_japanese_with(kanji, label))
+}
+
+// A space, and the first of 7 to 10 that applies to the label if it is taken for Japanese, or for ASCII.
+fn put_taken(
+    kanji: &[u32],
+    label: &[u32],
+    japanese: bool,
+    least: usize,
+    at: usize,
+    out: &mut [u8],
+    from: usize,
+) -> usize {
+    let o = printed::put_byte(out, from, b' ');
+    let r = labels::known_rule_with(kanji, label, japanese, least, at);
+    printed::put_number(out, o, r.number, r.place)
+}
+
+// A space and four flags: is the label "jp", does it begin that, is it a prefecture label, does it begin one?
+fn put_endings(label: &[u32], out: &mut [u8], from: usize) -> usize {
+    let mut o = printed::put_byte(out, from, b' ');
+    o = printed::put_flag(out, o, endings::is_jp(label));
+    o = printed::put_flag(out, o, endings::begins_jp(label));
+    o = printed::put_flag(out, o, endings::is_prefecture(label));
+    printed::put_flag(out, o, endings::begins_prefecture(label))
+}
+
+// A space and two flags: may a label hold it, and is it an ordinary one?
+fn put_character(kanji: &[u32], c: u32, out: &mut [u8], from: usize) -> usize {
+    let mut o = printed::put_byte(out, from, b' ');
+    o = printed::put_flag(out, o, labels::in_label_with(kanji, c));
+    printed::put_flag(out, o, labels::is_ordinary_with(kanji, c))
+}
+
+fn put_characters(kanji: &[u32], label: &[u32], out: &mut [u8], from: usize) -> usize {
+    let mut o = from;
+    let mut i: usize = 0;
+    while i < label.len() {
+        o = put_character(kanji, label[i], out, o);
+        i += 1;
+    }
+    o
+}
+
+// Q: one label, after six numbers: the halves of where to begin, of the least length and of the label's place.
+pub(crate) fn one_label(kanji: &[u32], numbers: &[u32], out: &mut [u8], o: usize) -> usize {
+    let n = numbers.len();
+    if n < 6 {
+        return printed::put_byte(out, o, b'?');
+    }
+    let from = of_halves(numbers[0], numbers[1]);
+    let least = of_halves(numbers[2], numbers[3]);
+    let at = of_halves(numbers[4], numbers[5]);
+    let label = &numbers[6..n];
+    let mut p = put_label(kanji, label, from, least, at, out, o);
+    p = put_taken(kanji, label, true, least, at, out, p);
+    p = put_taken(kanji, label, false, least, at, out, p);
+    p = put_endings(label, out, p);
+    put_characters(kanji, label, out, p)
+}
