@@ -38,7 +38,10 @@ pub fn replacements() -> &'static HashMap<u32, u32> {
         for (wide, digit) in ('０'..='９').zip('0'..='9') {
             pair(wide, digit);
         }
-        pair('－', '-');
+        // The second of these is document 02's, K2.
+        for hyphen in ['\u{FF0D}', '\u{2212}'] {
+            pair(hyphen, '-');
+        }
         for separator in ['．', '。', '｡'] {
             pair(separator, '.');
         }

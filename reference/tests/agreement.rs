@@ -155,3 +155,28 @@ fn utf8_is_read_as_the_standard_library_reads_it() {
         }
     }
 }
+
+/// K2 of document 02: with 2D in place of 2212 a text gets the same answers.
+#[test]
+fn a_minus_sign_is_judged_as_a_hyphen() {
+    let mut random = Random::seeded(2212);
+    let maker = NameMaker::default();
+    let mut texts = cases_of("NCALM");
+    for _ in 0..20_000 {
+        let typed = maker.typed_name(&mut random);
+        texts.push(maker.edit(&typed, &mut random));
+        texts.push(typed);
+    }
+    texts.retain(|text| text.contains(&0x2212));
+    assert!(texts.len() > 2_000, "{} texts", texts.len());
+    for text in texts {
+        let hyphened: Vec<u32> = text.iter().map(|code| if *code == 0x2212 { 0x2D } else { *code }).collect();
+        assert_eq!(normal::placed_normal_form(&text), normal::placed_normal_form(&hyphened), "{text:x?}");
+        let judged =
+            |text: &[u32]| name::check(text).map(|name| name.class).map_err(|no| (no.number, no.place));
+        assert_eq!(judged(&text), judged(&hyphened), "{text:x?}");
+        assert_eq!(hope::may_become(&text), hope::may_become(&hyphened), "{text:x?}");
+        let at_4 = judged(&text).err().filter(|no| no.0 == 4).map(|no| text[no.1]);
+        assert_ne!(at_4, Some(0x2212), "{text:x?}");
+    }
+}

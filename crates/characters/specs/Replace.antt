@@ -1,4 +1,5 @@
--- What replaces a code point: document 01, 'Normal form'. The kind of each code point is decided by ranges.
+-- What replaces a code point: document 01, 'Normal form'; 2212 is of document 02, K2. The kind of each code point is
+-- decided by ranges.
 use mathlib.Core.Bool.{Bool, true, false}
 use mathlib.Core.List.{List, [], _∷_}
 use Prim.Native.Nat.{ℕ, _+_, _-_}
@@ -28,6 +29,7 @@ ranges =
     range 0xFF10 0xFF19 Digit 0x30 ∷
     range 0x2D 0x2D Hyphen 0x2D ∷
     range 0xFF0D 0xFF0D Hyphen 0x2D ∷
+    range 0x2212 0x2212 Hyphen 0x2D ∷
     range 0x2E 0x2E Separator 0x2E ∷
     range 0xFF0E 0xFF0E Separator 0x2E ∷
     range 0x3002 0x3002 Separator 0x2E ∷

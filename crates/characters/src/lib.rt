@@ -134,6 +134,7 @@ pub fn class_of(c: u32) -> Replacement
         0x30..=0x39 => Replacement::Digit,
         0x41..=0x5A => Replacement::Letter,
         0x61..=0x7A => Replacement::Letter,
+        0x2212..=0x2212 => Replacement::Hyphen,
         0x3002..=0x3002 => Replacement::Separator,
         0x309B..=0x309C => Replacement::Mark,
         0xFF0D..=0xFF0D => Replacement::Hyphen,

@@ -93,7 +93,7 @@ module _ (f : ℕ → Bool) where
       go true e h = refl
       go false e h = rw e h
 
-  holds-there : (xs : List ℕ) → indexOf f xs < length xs → f (getD xs (indexOf f xs) 0) ≡ true
+  pub holds-there : (xs : List ℕ) → indexOf f xs < length xs → f (getD xs (indexOf f xs) 0) ≡ true
   unfolding indexOf
   holds-there [] h = absurd (omega arith)
   holds-there (x ∷ xs) h = go (f x) refl h (holds-there xs)

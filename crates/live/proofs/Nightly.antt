@@ -12,11 +12,13 @@ use Rattle.rules.specs.Permits.{Permits, Laws}
 use Rattle.rules.specs.Rules.{rules}
 use Rattle.rules.specs.declared.Verdict.{Verdict}
 use Rattle.rules.proofs.Steps.{front-3, text-front}
+use Rattle.rules.proofs.Minus.{withHyphens}
 use Rattle.names.specs.Calls.{shown, padded, judged, checkSaid, Checks, asciiSaid, AsciiForms}
 use Rattle.names.specs.declared.AsciiForm.{AsciiForm}
 use Rattle.names.specs.declared.Checked.{Checked}
 use Rattle.names.specs.declared.Judged.{Judged}
 use Rattle.names.proofs.Demands.{check-says, ascii-says}
+use Rattle.names.proofs.Minus.{minus-judged}
 use Rattle.live.specs.Live.{fresh, typed, tooLong, looked, Agrees}
 use Rattle.live.proofs.Typing.{live-is}
 
@@ -65,3 +67,8 @@ module _ (P : Permits) (cs : List ℕ) {j : Judged} (look : j ≡ looked P (type
   -- and the call for its ASCII form
   pub look-and-ascii : Laws P → {before after : List ℕ} {r : AsciiForm} → AsciiForms P cs before after r → 192 ≤ length before → Agrees j (asciiSaid r)
   look-and-ascii L a room = agrees (ascii-says P L a room)
+
+-- ---- a text that is typed with minus signs is shown as the same with hyphens (document 02, K2)
+
+pub minus-shown : (P : Permits) (cs : List ℕ) → looked P (typed fresh (withHyphens cs)) ≡ looked P (typed fresh cs)
+minus-shown P cs = live-is-nightly P (withHyphens cs) ∙ minus-judged P cs ∙ sym (live-is-nightly P cs)

@@ -8,4 +8,5 @@ pub mod UsualName
 pub mod Unique
 pub mod Coded
 pub mod Demands
+pub mod Minus
 pub mod Hoping

@@ -1,4 +1,5 @@
--- The normal form of a text that goes on: that of the text stands at its start, but for its last character, which a mark may join.
+-- The normal form of a text that goes on: that of the text stands at its start, but for its last character, which a mark may join. What is
+-- replaced by neither base nor mark parts it.
 -- Assumes nothing.
 use mathlib.Core.Path.{_≡_, refl, sym, ap, _∙_}
 use mathlib.Core.Bool.{Bool, true, false}
@@ -11,8 +12,8 @@ use Rattle.lists.proofs.Laws.{both}
 use Rattle.characters.specs.Replace.{replace}
 use Rattle.characters.specs.Compose.{composed}
 use Rattle.normal.specs.Normal.{normalForm}
-use Rattle.normal.proofs.Plain.{joinAll, plain, join-stays}
-use Rattle.normal.proofs.Unchanged.{unchanged, none-replaced, none-joined, no-mark}
+use Rattle.normal.proofs.Plain.{joinAll, plain, join-stays, join-baseless}
+use Rattle.normal.proofs.Unchanged.{unchanged, unreplaced, no-mark, unchanged-form}
 
 -- ---- by anything
 
@@ -45,23 +46,45 @@ continues (b ∷ m ∷ rest) ys = go (eqb (composed b m) 0) (continues (m ∷ re
 pub continued : (text s : List ℕ) → Continues (normalForm text) (normalForm (text ++ s))
 continued text s = rw (plain text, plain (text ++ s), map-append replace text s) (continues (map replace text) (map replace s))
 
--- ---- by characters that nothing replaces, with no mark among them
+-- ---- by what does not begin with a mark
 
-join-on : (xs r : List ℕ) → allOf unchanged r ≡ true → joinAll (xs ++ r) ≡ joinAll xs ++ r
-unfolding joinAll allOf
-join-on [] r e = none-joined r e
-join-on (x ∷ []) [] e = refl
-join-on (x ∷ []) (m ∷ rest) e =
-    join-stays x m rest (no-mark m (both (unchanged m) (allOf unchanged rest) e .0) x) ∙ ap (λ (l : List ℕ). x ∷ l) (none-joined (m ∷ rest) e)
-join-on (b ∷ m ∷ rest) r e = go (eqb (composed b m) 0) (join-on (m ∷ rest) r e) (join-on rest r e)
+abbrev Markless : List ℕ → Type 0
+Markless [] = Unit {0}
+Markless (m ∷ r) = (b : ℕ) → composed b m ≡ 0
+
+join-on : (xs r : List ℕ) → Markless r → joinAll (xs ++ r) ≡ joinAll xs ++ joinAll r
+unfolding joinAll
+join-on [] r n = refl
+join-on (x ∷ []) [] n = refl
+join-on (x ∷ []) (m ∷ rest) n = join-stays x m rest (n x)
+join-on (b ∷ m ∷ rest) r n = go (eqb (composed b m) 0) (join-on (m ∷ rest) r n) (join-on rest r n)
   where
-    go : (t : Bool) → joinAll (m ∷ (rest ++ r)) ≡ joinAll (m ∷ rest) ++ r → joinAll (rest ++ r) ≡ joinAll rest ++ r
+    go : (t : Bool) → joinAll (m ∷ (rest ++ r)) ≡ joinAll (m ∷ rest) ++ joinAll r → joinAll (rest ++ r) ≡ joinAll rest ++ joinAll r
         → pick t (b ∷ joinAll (m ∷ (rest ++ r))) (composed b m ∷ joinAll (rest ++ r))
-        ≡ pick t (b ∷ joinAll (m ∷ rest)) (composed b m ∷ joinAll rest) ++ r
+        ≡ pick t (b ∷ joinAll (m ∷ rest)) (composed b m ∷ joinAll rest) ++ joinAll r
     go true c d = ap (λ (l : List ℕ). b ∷ l) c
     go false c d = ap (λ (l : List ℕ). composed b m ∷ l) d
 
+continued-markless : (text r : List ℕ) → Markless (map replace r) → normalForm (text ++ r) ≡ normalForm text ++ normalForm r
+continued-markless text r n =
+    plain (text ++ r) ∙ ap joinAll (map-append replace text r) ∙ join-on (map replace text) (map replace r) n
+    ∙ rw (plain text, plain r)
+
+-- by characters that nothing replaces, with no mark among them
+markless : (r : List ℕ) → allOf unchanged r ≡ true → Markless (map replace r)
+unfolding allOf
+markless [] e = tt
+markless (m ∷ r) e = let k = both (unchanged m) (allOf unchanged r) e in rw (unreplaced m (k .0)) (no-mark m (k .0))
+
 pub continued-unchanged : (text r : List ℕ) → allOf unchanged r ≡ true → normalForm (text ++ r) ≡ normalForm text ++ r
-continued-unchanged text r e =
-    plain (text ++ r) ∙ ap joinAll (map-append replace text r ∙ ap (λ (l : List ℕ). map replace text ++ l) (none-replaced r e))
-    ∙ join-on (map replace text) r e ∙ ap (λ (l : List ℕ). l ++ r) (sym (plain text))
+continued-unchanged text r e = continued-markless text r (markless r e) ∙ ap (λ (l : List ℕ). normalForm text ++ l) (unchanged-form r e)
+
+-- ---- a character that is replaced by no base, and by no mark either
+
+module _ (c : ℕ) (s : List ℕ) (no-base : (m : ℕ) → composed (replace c) m ≡ 0) where
+  pub led : normalForm (c ∷ s) ≡ replace c ∷ normalForm s
+  led = plain (c ∷ s) ∙ join-baseless (replace c) (map replace s) no-base ∙ ap (λ (l : List ℕ). replace c ∷ l) (sym (plain s))
+
+  -- it stands between the normal forms of what is before it and after it
+  pub parted : (text : List ℕ) → ((b : ℕ) → composed b (replace c) ≡ 0) → normalForm (text ++ c ∷ s) ≡ normalForm text ++ replace c ∷ normalForm s
+  parted text none = continued-markless text (c ∷ s) none ∙ ap (λ (l : List ℕ). normalForm text ++ l) led

@@ -28,7 +28,7 @@ module _ (c : ℕ) where
     unfolding unchanged
     parts = both (eqb (replace c) c) (not (eqb c 0x309B || eqb c 0x309C)) e
 
-    unreplaced : replace c ≡ c
+    pub unreplaced : replace c ≡ c
     unreplaced = eqb-true (replace c) c (parts .0)
 
     pub no-mark : (b : ℕ) → composed b c ≡ 0
@@ -36,14 +36,14 @@ module _ (c : ℕ) where
         let n = neither (eqb c 0x309B) (eqb c 0x309C) (not-true (eqb c 0x309B || eqb c 0x309C) (parts .1)) in
         unmarked b c (n .0) (n .1)
 
-pub none-replaced : (l : List ℕ) → allOf unchanged l ≡ true → map replace l ≡ l
+none-replaced : (l : List ℕ) → allOf unchanged l ≡ true → map replace l ≡ l
 unfolding allOf
 none-replaced [] e = refl
 none-replaced (x ∷ xs) e =
     let p = both (unchanged x) (allOf unchanged xs) e in
     rw (unreplaced x (p .0), none-replaced xs (p .1))
 
-pub none-joined : (l : List ℕ) → allOf unchanged l ≡ true → joinAll l ≡ l
+none-joined : (l : List ℕ) → allOf unchanged l ≡ true → joinAll l ≡ l
 unfolding allOf joinAll
 none-joined [] e = refl
 none-joined (x ∷ []) e = refl

@@ -1,4 +1,4 @@
--- Closed examples of document 01, 'Normal form' and 'Errors the rules invite', by computation.
+-- Closed examples of document 01, 'Normal form' and 'Errors the rules invite', and of document 02, K2, by computation.
 use mathlib.Core.Path.{_≡_, refl}
 use mathlib.Core.List.{List, [], _∷_, _++_, map}
 use Prim.Native.Nat.{ℕ, zero, suc}
@@ -36,6 +36,9 @@ examples =
     example (0x30CF ∷ 0x309B ∷ 0x309C ∷ []) (0x30D0 ∷ 0x309C ∷ []) (0 ∷ 2 ∷ []) ∷
     -- 3046 is not composed; a mark alone stays
     example (0x3046 ∷ 0x309B ∷ []) (0x3046 ∷ 0x309B ∷ []) (0 ∷ 1 ∷ []) ∷
+    -- the minus sign is a hyphen, between a base and a mark too, and next to the other two hyphens
+    example (0x30AB ∷ 0x2212 ∷ 0x309B ∷ []) (0x30AB ∷ 0x2D ∷ 0x309B ∷ []) (0 ∷ 1 ∷ 2 ∷ []) ∷
+    example (0x30AB ∷ 0x309B ∷ 0x2212 ∷ 0xFF0D ∷ 0x2D ∷ []) (0x30AC ∷ 0x2D ∷ 0x2D ∷ 0x2D ∷ []) (0 ∷ 2 ∷ 3 ∷ 4 ∷ []) ∷
     example [] [] [] ∷
     []
 

@@ -8,6 +8,7 @@ pub mod Derived
 pub mod Exactly
 pub mod Today
 pub mod Steps
+pub mod Minus
 pub mod Growing
 pub mod Begun
 pub mod Grown

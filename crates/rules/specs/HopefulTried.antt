@@ -46,6 +46,9 @@ yes =
     replicate 14 0x30FB ∷
     hiraganas 15 ∷
     (hiraganas 13 ++ 0x2D ∷ []) ∷
+    -- document 02, K2: the same with a minus sign
+    (0x61 ∷ 0x2212 ∷ []) ∷
+    (hiraganas 13 ++ 0x2212 ∷ []) ∷
     -- sixteen code points, fifteen characters
     (hiraganas 14 ++ 0xFF76 ∷ 0xFF9E ∷ []) ∷
     []
@@ -70,9 +73,13 @@ no =
     (hiraganas 14 ++ 0x2D ∷ []) ∷
     replicate 15 0x30FB ∷
     (replicate 15 0x61 ++ 0x3042 ∷ []) ∷
+    -- document 02, K2: a minus sign; after fourteen hiragana; abc.c and one
+    (0x2212 ∷ []) ∷
+    (hiraganas 14 ++ 0x2212 ∷ []) ∷
+    (0x61 ∷ 0x62 ∷ 0x63 ∷ 0x2E ∷ 0x63 ∷ 0x2212 ∷ []) ∷
     []
 
-pub tried-hopeful : (says yes ≡ replicate 16 true) × (says no ≡ replicate 15 false)
+pub tried-hopeful : (says yes ≡ replicate 18 true) × (says no ≡ replicate 18 false)
 unfolding within allOf anyOf indexOf elem same first kanji alnum hyphen asciiSet hiragana katakana signs japaneseBy
     japanese ranges rangeIn halfKana isHalf replaceIn replace voiced repeats halfVoiced eitherKana composed replacedFrom
     compose normalPlaced normalForm places period intoFirst labels jaChar labelChar isEmpty unfit middleDot ordinary

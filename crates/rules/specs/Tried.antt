@@ -1,4 +1,5 @@
--- The starred names of document 01, 'Tried names', as one table under one statement.
+-- The starred names of document 01, 'Tried names', and after them names that document 02 decides, as one table
+-- under one statement.
 use mathlib.Core.Path.{_≡_, refl}
 use mathlib.Core.List.{List, [], _∷_, map}
 use Prim.Native.Nat.{ℕ}
@@ -64,6 +65,18 @@ table =
     accepts (0x61 ∷ 0x62 ∷ 0x63 ∷ 0x2E ∷ 0x74 ∷ 0x6F ∷ 0x6B ∷ 0x79 ∷ 0x6F ∷ dotJp) Prefecture
     (0x61 ∷ 0x62 ∷ 0x63 ∷ 0x2E ∷ 0x74 ∷ 0x6F ∷ 0x6B ∷ 0x79 ∷ 0x6F ∷ dotJp) ∷
     refuses (0x61 ∷ 0x62 ∷ 0x63 ∷ 0x2E ∷ 0x74 ∷ 0x6F ∷ 0x6B ∷ 0x69 ∷ 0x6F ∷ dotJp) 12 0 ∷
+    -- document 02, K2. a 2212 b .jp; 3042 2212 2212 3042 .jp
+    accepts (0x61 ∷ 0x2212 ∷ 0x62 ∷ dotJp) General (0x61 ∷ 0x2D ∷ 0x62 ∷ dotJp) ∷
+    accepts (0x3042 ∷ 0x2212 ∷ 0x2212 ∷ 0x3042 ∷ dotJp) General (0x3042 ∷ 0x2D ∷ 0x2D ∷ 0x3042 ∷ dotJp) ∷
+    -- 2212 3042 .jp; 3042 2212 .jp; 2212 .jp
+    refuses (0x2212 ∷ 0x3042 ∷ dotJp) 7 0 ∷
+    refuses (0x3042 ∷ 0x2212 ∷ dotJp) 7 0 ∷
+    refuses (0x2212 ∷ dotJp) 7 0 ∷
+    -- 30AB 2212 309B .jp: the mark is unfit, the minus sign is not
+    refuses (0x30AB ∷ 0x2212 ∷ 0x309B ∷ dotJp) 4 2 ∷
+    -- abc.j 2212 p; abc.nara 2212 .jp
+    refuses (0x61 ∷ 0x62 ∷ 0x63 ∷ 0x2E ∷ 0x6A ∷ 0x2212 ∷ 0x70 ∷ []) 11 0 ∷
+    refuses (0x61 ∷ 0x62 ∷ 0x63 ∷ 0x2E ∷ 0x6E ∷ 0x61 ∷ 0x72 ∷ 0x61 ∷ 0x2212 ∷ dotJp) 12 0 ∷
     []
 
 pub tried : map said table ≡ map meant table

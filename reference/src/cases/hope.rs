@@ -51,6 +51,9 @@ fn growing() -> Vec<String> {
         }
     }
     texts.extend(["-", "--a", "-\u{3042}"].map(|end| "c".repeat(61) + end + "aaa"));
+    texts.extend([("j", "\u{2212}"), ("k", "\u{2212}\u{3042}.")].map(|(unit, end)| unit.repeat(61) + end));
+    texts.extend([12, 13, 14].map(|length| "\u{304A}".repeat(length) + "\u{2212}"));
+    texts.extend(["\u{2212}a", "l\u{2212}.", "l\u{2212}\u{309B}", "abc.n\u{2212}"].map(String::from));
     texts
 }
 
@@ -166,7 +169,7 @@ fn last_labels() -> Vec<String> {
 
 /// A character that is unfit, at each place of some names.
 fn unfit() -> Vec<Vec<u32>> {
-    let strangers = [0x20, 0x309B, 0x5F, 0x3000, 0x2212, 0x3094, 0x30F7, 0, 0xD800, 0x8000_0061, 0xFFFF_FFFF];
+    let strangers = [0x20, 0x309B, 0x5F, 0x3000, 0x2213, 0x3094, 0x30F7, 0, 0xD800, 0x8000_0061, 0xFFFF_FFFF];
     let names = ["abc.jp", "\u{3042}\u{304B}.\u{6771}\u{4EAC}.JP", "\u{FF76}\u{FF9E}-a\u{3002}nara.jp"];
     let mut texts = Vec::new();
     for name in names.map(points) {

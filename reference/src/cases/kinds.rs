@@ -7,12 +7,13 @@ use crate::chars::SIGNS;
 /// How many numbers a case has: an even count, so that pairs stay whole.
 pub const IN_A_CASE: usize = 60;
 
-/// First and last of every range of document 01.
-const RANGES: [(u32, u32); 15] = [
+/// First and last of every range of document 01, and document 02's 2212.
+const RANGES: [(u32, u32); 16] = [
     (0x2D, 0x2E),
     (0x30, 0x39),
     (0x41, 0x5A),
     (0x61, 0x7A),
+    (0x2212, 0x2212),
     (0x3002, 0x3002),
     (0x3041, 0x3093),
     (0x309B, 0x309C),
@@ -44,7 +45,8 @@ pub fn borders() -> Vec<u32> {
 
 /// Numbers whose lower half is a character's.
 pub fn alike() -> Vec<u32> {
-    let characters = [0x2D, 0x2E, 0x37, 0x41, 0x7A, 0x3042, 0x30AB, 0x30FB, 0x4E9C, 0x4EDD, 0xFF0D, 0xFF71];
+    let characters =
+        [0x2D, 0x2E, 0x37, 0x41, 0x7A, 0x2212, 0x3042, 0x30AB, 0x30FB, 0x4E9C, 0x4EDD, 0xFF0D, 0xFF71];
     let high = [0x1_0000, 0x10_0000, 0x100_0000, 0x8000_0000, 0xFFFF_0000];
     high.iter().flat_map(|high| characters.map(|low| high | low)).collect()
 }

@@ -1,5 +1,6 @@
 //! Each boundary of each rule, each prefecture label, each length of buffer.
 
+use super::characters::with_jp;
 use super::CaseFile;
 use crate::name::{japanese_prefectures, latin_prefectures};
 use crate::points;
@@ -9,6 +10,8 @@ pub fn add(file: &mut CaseFile) {
     label_counts(file);
     leftmost_lengths(file);
     hyphens(file);
+    minus_signs(file);
+    dashes(file);
     middle_dots(file);
     last_labels(file);
     prefectures(file);
@@ -127,16 +130,56 @@ fn hyphens(file: &mut CaseFile) {
         "\u{30FB}-", "-\u{30FB}-\u{3042}", "\u{3042}-a", "a\u{3042}-", "-1\u{3042}1-", "1-\u{3042}-1",
     ];
     for label in labels {
-        for spelled in [label.to_string(), wide(label), label.to_uppercase(), label.replace('-', "\u{FF0D}")]
-        {
+        let hyphened = ["\u{FF0D}", "\u{2212}"].map(|hyphen| label.replace('-', hyphen));
+        for spelled in [label.to_string(), wide(label), label.to_uppercase()].into_iter().chain(hyphened) {
             for tail in [".jp", ".chiba.jp", ".com"] {
                 file.in_turn(&points(&(spelled.clone() + tail)));
             }
             file.leftmost(&points(&spelled));
         }
-        // 2212 and 2010 are no hyphens.
-        file.in_turn(&points(&(label.replace('-', "\u{2212}") + ".jp")));
+        // 2010 is no hyphen.
         file.in_turn(&points(&(label.replace('-', "\u{2010}") + ".jp")));
+    }
+}
+
+/// 2212 at each place of a name, and beside marks.
+fn minus_signs(file: &mut CaseFile) {
+    let names = ["ab.jp", "\u{3042}\u{4E9C}.\u{5948}\u{826F}.jp", "\u{FF76}\u{FF9E}\u{3002}mie\u{FF61}JP"];
+    for name in names.map(points) {
+        for place in 0..=name.len() {
+            let mut text = name.clone();
+            text.insert(place, 0x2212);
+            file.text(&text);
+        }
+    }
+    for base in ["", "\u{30AB}", "\u{306F}", "\u{FF8A}", "\u{309D}", "a"] {
+        for mark in ["\u{309B}", "\u{309C}", "\u{FF9E}", "\u{FF9F}"] {
+            for label in [format!("{base}\u{2212}{mark}b"), format!("{base}{mark}\u{2212}b")] {
+                file.in_turn(&points(&(label + ".jp")));
+            }
+        }
+    }
+    file.add('S', 0, &[0x61, 0x2212, 0x62]);
+}
+
+/// 2212 beside the other hyphens, in labels and texts about as long as may
+/// be; and what looks like it.
+fn dashes(file: &mut CaseFile) {
+    let hyphens = ["-", "\u{FF0D}", "\u{2212}"];
+    for (a, b) in hyphens.into_iter().flat_map(|a| hyphens.map(|b| (a, b))) {
+        for label in [format!("a{a}{b}b"), format!("\u{3042}{a}a{b}"), format!("{a}b{b}c")] {
+            file.in_turn(&points(&(label + ".jp")));
+        }
+    }
+    let units = [("a", 61), ("a", 62), ("\u{3042}", 13), ("\u{3042}", 14), ("\u{FF76}\u{FF9E}", 13)];
+    for (unit, times) in units {
+        file.name(&points(&format!("{}\u{2212}{unit}.jp", unit.repeat(times))));
+    }
+    for length in [255, 256, 257] {
+        file.text(&vec![0x2212; length]);
+    }
+    for stranger in [0x2010, 0x2011, 0x2012, 0x2013, 0x2014, 0x2015, 0x207B, 0x2211, 0x2213, 0x2500, 0xFE63] {
+        file.name(&with_jp(&[0x61, stranger, 0x62]));
     }
 }
 

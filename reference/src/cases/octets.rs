@@ -146,6 +146,10 @@ fn line_lengths(file: &mut CaseFile) {
         octets.resize(length, b'a');
         line(file, &octets);
     }
+    // A minus sign is three of the bytes: 1,024 and 1,025 of them.
+    for id in ["abc", "abcd"] {
+        line(file, format!("{id}\t{}", "\u{2212}".repeat(340)).as_bytes());
+    }
     for (unit, times) in [("a", 255), ("a", 256), ("a", 257), ("\u{3042}", 257), ("\u{3042}", 340)] {
         line(file, format!("x\t{}", unit.repeat(times)).as_bytes());
         line(file, format!("ab\t{}\u{20}", unit.repeat(times)).as_bytes());

@@ -1,4 +1,5 @@
-//! Document 01's tried names and the errors its rules invite.
+//! Document 01's tried names and the errors its rules invite, and names that
+//! document 02's requests decide.
 
 use super::CaseFile;
 use crate::points;
@@ -38,6 +39,27 @@ pub fn names() -> Vec<Tried> {
         row(&(hiragana(16) + ".jp"), 9, 0, '-', ""),
         row(&a(256), 5, 0, '-', ""),
         row(&a(257), 3, 256, '-', ""),
+    ]
+}
+
+/// Names that K2 decides: 2212 is a hyphen. It is no base and no mark, and it
+/// is not unfit.
+pub fn requested() -> Vec<Tried> {
+    let refused = |text: &str, number: u8, place: usize| row(text, number, place, '-', "");
+    vec![
+        row("a\u{2212}b.jp", 0, 0, 'G', "a-b.jp"),
+        row("\u{3042}\u{2212}\u{2212}\u{3042}.jp", 0, 0, 'G', "\u{3042}--\u{3042}.jp"),
+        row("\u{3042}\u{2212}\u{2212}\u{3042}\u{3002}TOKYO.jp", 0, 0, 'P', "\u{3042}--\u{3042}.tokyo.jp"),
+        refused("\u{2212}\u{3042}.jp", 7, 0),
+        refused("\u{3042}\u{2212}.jp", 7, 0),
+        refused("\u{2212}.jp", 7, 0),
+        refused("\u{2212}.nara.jp", 7, 0),
+        refused("\u{30AB}\u{2212}\u{309B}.jp", 4, 2),
+        refused("\u{2212}\u{FF9E}.jp", 4, 1),
+        refused("\u{2212}", 5, 0),
+        refused("abc.j\u{2212}p", 11, 0),
+        refused("abc.nara\u{2212}.jp", 12, 0),
+        refused("a\u{2213}b.jp", 4, 1),
     ]
 }
 
@@ -82,9 +104,9 @@ fn counted_after_composition() -> Vec<String> {
     ]
 }
 
-/// The tried names and the invited errors.
+/// The tried names, the requested ones and the invited errors.
 pub fn texts() -> Vec<String> {
-    let tried = names().into_iter().map(|name| name.0);
+    let tried = names().into_iter().chain(requested()).map(|name| name.0);
     let fixed = [&ACROSS[..], &TWICE, &LOWERED, &DOTTED, &SHORT_LAST].concat();
     let invited = fixed.into_iter().map(String::from).chain(counted_after_composition());
     tried.chain(invited).collect()
