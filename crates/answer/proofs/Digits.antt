@@ -3,20 +3,20 @@
 -- Assumes nothing.
 use mathlib.Core.Path.{_≡_, refl, ap}
 use mathlib.Core.Bool.{Bool, true, false, _&&_, _||_}
-use mathlib.Core.List.{List, [], _∷_, _++_, map}
+use mathlib.Core.List.{List, [], _∷_, _++_}
 use mathlib.Core.Logic.{⊎-elim}
-use Prim.Native.Nat.{ℕ, zero, suc, _+_, _/_, _≤_, _<_}
+use Prim.Native.Nat.{ℕ, _+_, _/_, _≤_, _<_}
 use native.Mathlib.Omega.{arith}
 use lib.Dec.{eqb, leb, ltb}
 use lib.ListN.{length, getD}
 use borrow.Author.Tests.{le-leb, leb-true}
-use Rattle.lists.specs.Tests.{pick, allOf, anyOf, indexOf}
+use Rattle.lists.specs.Tests.{allOf, anyOf, indexOf}
 use Rattle.lists.specs.Rows.{Row, row, first}
 use Rattle.lists.specs.declared.Answer.{Answer}
-use Rattle.lists.proofs.Laws.{both, lt-or-le, index-bound}
+use Rattle.lists.proofs.Laws.{lt-or-le, index-bound}
 use Rattle.lists.proofs.Tables.{of-two, of-rows}
-use Rattle.characters.specs.Compose.{composed}
-use Rattle.normal.specs.Normal.{Placed, placed, replacedFrom, compose, normalPlaced, normalForm, places}
+use Rattle.normal.specs.Normal.{normalForm, places}
+use Rattle.normal.proofs.Origins.{began-inside}
 use Rattle.rules.specs.Labels.{labels}
 use Rattle.rules.specs.Permits.{Permits, isEmpty}
 use Rattle.rules.specs.Rules.{unfit, labelRows, nameRows, frontRows, textRows, verdict}
@@ -33,42 +33,6 @@ said-full n h =
     ⊎-elim (λ a. rw (one-digit n a) (omega arith))
     (λ a. ⊎-elim (λ b. rw (two-digits n a b) (omega arith)) (λ b. rw (three-digits n a b) (omega arith)) (lt-or-le (n / 10) 10))
     (lt-or-le n 10)
-
--- ---- where the characters of a normal form began
-
-abbrev early : ℕ → Placed → Bool
-early n p = leb (p .began) n
-
-replaced-early : (n i : ℕ) (cs : List ℕ) → i + length cs ≤ n → allOf (early n) (replacedFrom i cs) ≡ true
-unfolding allOf replacedFrom
-replaced-early n i [] h = refl
-replaced-early n i (c ∷ cs) h = rw (le-leb i n (omega arith)) (replaced-early n (suc i) cs (omega arith))
-
-composed-early : (n : ℕ) (ps : List Placed) → allOf (early n) ps ≡ true → allOf (early n) (compose ps) ≡ true
-unfolding allOf compose
-composed-early n [] e = refl
-composed-early n (x ∷ []) e = e
-composed-early n (b ∷ m ∷ rest) e =
-    let p = both (early n b) (allOf (early n) (m ∷ rest)) e in
-    let q = both (early n m) (allOf (early n) rest) (p .1) in
-    go (eqb (composed (b .code) (m .code)) 0) (p .0) (composed-early n (m ∷ rest) (p .1)) (composed-early n rest (q .1))
-  where
-    go : (t : Bool) → early n b ≡ true → allOf (early n) (compose (m ∷ rest)) ≡ true → allOf (early n) (compose rest) ≡ true
-        → allOf (early n) (pick t (b ∷ compose (m ∷ rest)) (placed (composed (b .code) (m .code)) (b .began) ∷ compose rest)) ≡ true
-    go true x y z = rw x y
-    go false x y z = rw x z
-
-entry-early : (n : ℕ) (ps : List Placed) (k : ℕ) → allOf (early n) ps ≡ true → getD (map (λ (p : Placed). p .began) ps) k 0 ≤ n
-unfolding allOf
-entry-early n [] k e = omega arith
-entry-early n (p ∷ ps) zero e = leb-true (p .began) n (both (early n p) (allOf (early n) ps) e .0)
-entry-early n (p ∷ ps) (suc k) e = entry-early n ps k (both (early n p) (allOf (early n) ps) e .1)
-
-began-inside : (text : List ℕ) (k : ℕ) → getD (places text) k 0 ≤ length text
-unfolding places normalPlaced
-began-inside text k =
-    entry-early (length text) (compose (replacedFrom 0 text)) k
-    (composed-early (length text) (replacedFrom 0 text) (replaced-early (length text) 0 text (omega arith)))
 
 -- ---- the rows
 

@@ -1,10 +1,11 @@
 -- Where the normal form comes from. Only what replaces a code point is looked at, so texts that are replaced alike have one normal form,
--- begun at the same places; and each character of it is what replaces the code point at its place, alone or joined by a mark.
+-- begun at the same places; and each character of it is what replaces the code point at its place, alone or joined by a mark, and
+-- began inside the text.
 -- Assumes nothing.
 use mathlib.Core.Path.{_≡_, refl, sym, ap, _∙_}
 use mathlib.Core.Bool.{Bool, true, false}
 use mathlib.Core.List.{List, [], _∷_, map}
-use Prim.Native.Nat.{ℕ, zero, suc, _+_, _<_}
+use Prim.Native.Nat.{ℕ, zero, suc, _+_, _≤_, _<_}
 use native.Mathlib.Omega.{arith}
 use lib.Dec.{eqb}
 use lib.ListN.{length, getD, length-map, List·getD-map}
@@ -42,65 +43,83 @@ module _ (t u : List ℕ) (e : map replace t ≡ map replace u) where
   pub length-alike : length t ≡ length u
   length-alike = sym (length-map t replace) ∙ ap length e ∙ length-map u replace
 
--- ---- what a character of the form came from
+-- ---- what each entry of the placed form keeps
+
+abbrev Every : (Placed → Type 0) → List Placed → Type 0
+Every R [] = Unit {0}
+Every R (p ∷ ps) = R p × Every R ps
+
+each-replaced : (Q : Placed → Type 0) (i : ℕ) (xs : List ℕ) → ((j : ℕ) → j < length xs → Q (placed (replace (getD xs j 0)) (i + j)))
+    → Every Q (replacedFrom i xs)
+unfolding replacedFrom
+each-replaced Q i [] h = tt
+each-replaced Q i (x ∷ xs) h = (here (h 0 (omega arith)), each-replaced Q (suc i) xs (λ j l. later j (h (suc j) (omega arith))))
+  where
+    here : Q (placed (replace x) (i + 0)) → Q (placed (replace x) i)
+    here q = let z : i + 0 ≡ i = omega arith in rw z at q
+
+    later : (j : ℕ) → Q (placed (replace (getD xs j 0)) (i + suc j)) → Q (placed (replace (getD xs j 0)) (suc i + j))
+    later j q = let z : i + suc j ≡ suc i + j = omega arith in rw z at q
+
+-- Q of what is replaced gives R of what stays alone, and of what a mark joins
+module _ (Q R : Placed → Type 0) (alone : (p : Placed) → Q p → R p)
+    (pair : (b m : Placed) → Q b → (composed (b .code) (m .code) ≡ 0 → ⊥) → R (placed (composed (b .code) (m .code)) (b .began))) where
+  each-composed : (ps : List Placed) → Every Q ps → Every R (compose ps)
+  unfolding compose
+  each-composed [] q = tt
+  each-composed (p ∷ []) q = (alone p (q .0), tt)
+  each-composed (b ∷ m ∷ rest) q =
+      go (eqb (composed (b .code) (m .code)) 0) refl (each-composed (m ∷ rest) (q .1)) (each-composed rest (q .1 .1))
+    where
+      go : (z : Bool) → eqb (composed (b .code) (m .code)) 0 ≡ z → Every R (compose (m ∷ rest)) → Every R (compose rest)
+          → Every R (pick z (b ∷ compose (m ∷ rest)) (placed (composed (b .code) (m .code)) (b .began) ∷ compose rest))
+      go true e c d = (alone b (q .0), c)
+      go false e c d = (pair b m (q .0) (eqb-false _ 0 e), d)
+
+  each-at : (ps : List Placed) (k : ℕ) → Every R ps → (length ps ≤ k → R (placed 0 0)) → R (getD ps k (placed 0 0))
+  each-at [] k r past = past (omega arith)
+  each-at (p ∷ ps) zero r past = r .0
+  each-at (p ∷ ps) (suc k) r past = each-at ps k (r .1) (λ h. past (omega arith))
+
+  entry : (t : List ℕ) → ((j : ℕ) → j < length t → Q (placed (replace (getD t j 0)) (0 + j))) → (k : ℕ)
+      → (length (normalForm t) ≤ k → R (placed 0 0)) → R (getD (normalPlaced t) k (placed 0 0))
+  unfolding normalForm normalPlaced
+  entry t h k past =
+      let ps = compose (replacedFrom 0 t) in
+      each-at ps k (each-composed (replacedFrom 0 t) (each-replaced Q 0 t h)) (λ l. past (omega (arith, length-map ps (λ (p : Placed). p .code))))
+
+-- ---- what a character of the form came from, and where it began
 
 -- from x alone, or from x and a mark
 pub data Came (x : ℕ) : ℕ → Type 0 where
   alone : Came x x
   joined : (m : ℕ) → (composed x m ≡ 0 → ⊥) → Came x (composed x m)
 
-module _ (g : ℕ → ℕ) where
-  -- each is what g says of its place
-  abbrev Told : List Placed → Type 0
-  Told [] = Unit {0}
-  Told (p ∷ ps) = (p .code ≡ g (p .began)) × Told ps
+module _ (t : List ℕ) (k : ℕ) where
+  code-at : getD (normalForm t) k 0 ≡ getD (normalPlaced t) k (placed 0 0) .code
+  unfolding normalForm
+  code-at = List·getD-map (λ (p : Placed). p .code) (normalPlaced t) k (placed 0 0)
 
-  -- each came from what g says of its place
-  abbrev From : List Placed → Type 0
-  From [] = Unit {0}
-  From (p ∷ ps) = Came (g (p .began)) (p .code) × From ps
+  began-at : getD (places t) k 0 ≡ getD (normalPlaced t) k (placed 0 0) .began
+  unfolding places
+  began-at = List·getD-map (λ (p : Placed). p .began) (normalPlaced t) k (placed 0 0)
 
-  came-alone : (p : Placed) → p .code ≡ g (p .began) → Came (g (p .began)) (p .code)
-  came-alone p e = rw e alone
-
-  came-joined : (b m : Placed) → b .code ≡ g (b .began) → eqb (composed (b .code) (m .code)) 0 ≡ false
-      → Came (g (b .began)) (composed (b .code) (m .code))
-  came-joined b m e n = rw e (joined (m .code) (eqb-false _ 0 (rw e at n)))
-
-  composes : (ps : List Placed) → Told ps → From (compose ps)
-  unfolding compose
-  composes [] t = tt
-  composes (p ∷ []) t = (came-alone p (t .0), tt)
-  composes (b ∷ m ∷ rest) t = go (eqb (composed (b .code) (m .code)) 0) refl (composes (m ∷ rest) (t .1)) (composes rest (t .1 .1))
+  pub came : k < length (normalForm t) → Came (replace (getD t (getD (places t) k 0) 0)) (getD (normalForm t) k 0)
+  came h =
+      rw (code-at, began-at)
+      (entry Q R (λ p e. rw e alone) (λ b m e n. rw e (joined (m .code) (rw e at n))) t (λ j l. rw (zero-and j)) k (λ l. absurd (omega arith)))
     where
-      go : (z : Bool) → eqb (composed (b .code) (m .code)) 0 ≡ z → From (compose (m ∷ rest)) → From (compose rest)
-          → From (pick z (b ∷ compose (m ∷ rest)) (placed (composed (b .code) (m .code)) (b .began) ∷ compose rest))
-      go true e c d = (came-alone b (t .0), c)
-      go false e c d = (came-joined b m (t .0) e, d)
+      Q : Placed → Type 0
+      Q p = p .code ≡ replace (getD t (p .began) 0)
 
-  at : (ps : List Placed) (k : ℕ) → From ps → k < length ps → Came (g (getD ps k (placed 0 0) .began)) (getD ps k (placed 0 0) .code)
-  at [] k f h = absurd (omega arith)
-  at (p ∷ ps) zero f h = f .0
-  at (p ∷ ps) (suc k) f h = at ps k (f .1) (omega arith)
+      R : Placed → Type 0
+      R p = Came (replace (getD t (p .began) 0)) (p .code)
 
-module _ (t : List ℕ) where
-  abbrev source : ℕ → ℕ
-  source i = replace (getD t i 0)
+      zero-and : (j : ℕ) → 0 + j ≡ j
+      zero-and j = omega arith
 
-  told : (i : ℕ) (xs : List ℕ) → ((j : ℕ) → getD xs j 0 ≡ getD t (i + j) 0) → Told source (replacedFrom i xs)
-  unfolding replacedFrom
-  told i [] h = tt
-  told i (x ∷ xs) h = (here (h 0), told (suc i) xs later)
+  pub began-inside : getD (places t) k 0 ≤ length t
+  began-inside = rw began-at (entry Q Q (λ p q. q) (λ b m q n. q) t (λ j l. omega arith) k (λ l. omega arith))
     where
-      here : x ≡ getD t (i + 0) 0 → replace x ≡ source i
-      here e = let z : i + 0 ≡ i = omega arith in ap replace (rw z at e)
-
-      later : (j : ℕ) → getD xs j 0 ≡ getD t (suc i + j) 0
-      later j = let z : i + suc j ≡ suc i + j = omega arith in rw z at (h (suc j))
-
-  pub came : (k : ℕ) → k < length (normalForm t) → Came (replace (getD t (getD (places t) k 0) 0)) (getD (normalForm t) k 0)
-  unfolding normalForm places normalPlaced
-  came k h =
-      let ps = compose (replacedFrom 0 t) in
-      let f = at source ps k (composes source (replacedFrom 0 t) (told 0 t (λ j. let z : 0 + j ≡ j = omega arith in rw z))) (rw (length-map ps (λ (p : Placed). p .code)) at h) in
-      rw (List·getD-map (λ (p : Placed). p .code) ps k (placed 0 0), List·getD-map (λ (p : Placed). p .began) ps k (placed 0 0)) f
+      Q : Placed → Type 0
+      Q p = p .began ≤ length t

@@ -42,15 +42,17 @@ examples =
     example [] [] [] ∷
     []
 
-pub forms : map (λ (e : Example). normalForm (e .text)) examples ≡ map (λ (e : Example). e .form) examples
-unfolding normalForm normalPlaced compose replacedFrom replace replaceIn isHalf halfKana rangeIn ranges within
-    composed eitherKana voiced repeats halfVoiced elem anyOf
-forms = refl
+-- what its text becomes, and what it ought to
+abbrev said : Example → List ℕ × List ℕ
+said e = (normalForm (e .text), places (e .text))
 
-pub begun : map (λ (e : Example). places (e .text)) examples ≡ map (λ (e : Example). e .begins) examples
-unfolding places normalPlaced compose replacedFrom replace replaceIn isHalf halfKana rangeIn ranges within composed
-    eitherKana voiced repeats halfVoiced elem anyOf
-begun = refl
+abbrev meant : Example → List ℕ × List ℕ
+meant e = (e .form, e .begins)
+
+pub tried : map said examples ≡ map meant examples
+unfolding normalForm places normalPlaced compose replacedFrom replace replaceIn isHalf halfKana rangeIn ranges within
+    composed eitherKana voiced repeats halfVoiced elem anyOf
+tried = refl
 
 -- thirty half-width code points make fifteen characters
 pub thirty-make-fifteen : length (normalForm (often 15 (0xFF76 ∷ 0xFF9E ∷ []))) ≡ 15

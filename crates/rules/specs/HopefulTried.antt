@@ -46,7 +46,7 @@ yes =
     replicate 14 0x30FB ∷
     hiraganas 15 ∷
     (hiraganas 13 ++ 0x2D ∷ []) ∷
-    -- document 02, K2: the same with a minus sign
+    -- document 02, K2: a and a minus sign; thirteen hiragana and one
     (0x61 ∷ 0x2212 ∷ []) ∷
     (hiraganas 13 ++ 0x2212 ∷ []) ∷
     -- sixteen code points, fifteen characters
