@@ -1,6 +1,6 @@
 //! How often each number comes up in the answers to probe lines.
 
-pub const NUMBERS: usize = 17;
+pub const NUMBERS: usize = 18;
 
 /// The calls whose answer begins with a number.
 const NUMBERED: &str = "NCcAaEDLlJjQ";
@@ -24,7 +24,7 @@ fn numbers_in_batch(fields: &[&str]) -> Vec<usize> {
     output.lines().filter_map(second).collect()
 }
 
-/// The counts of numbers 0 to 16, of cases and their answers.
+/// The counts of numbers 0 to 17, of cases and their answers.
 pub fn count<'a>(answered: impl Iterator<Item = (&'a str, &'a str)>) -> [usize; NUMBERS] {
     let mut counts = [0; NUMBERS];
     for number in answered.flat_map(|(case, answer)| numbers_in(case, answer)) {

@@ -6,20 +6,26 @@
 //!
 //! - Before the first period the second reader goes on from where it stands,
 //!   by every kind of character, up to the longest label. Where one of these
-//!   ways comes to the end of a label, ".jp" may follow.
+//!   ways comes to the end of a label that may be leftmost, ".jp" may follow.
 //! - From the first period on, a name ends in one of 95 ways. The label before
 //!   must be whole, and the rest the beginning of one of them.
 //!
+//! The second reader keeps to document 004. Beside it each way remembers what
+//! K3 asks: a label with hyphens in its third and fourth places is leftmost
+//! only if it is Japanese. So after "ab--" a Japanese character must come, and
+//! among the first fifteen.
+//!
 //! It is enough to go on from the normal form, and in normal form. What is
 //! typed later changes it in one way only: a mark joins the last base. Base
-//! and whole are of one kind, and neither stands in an ending, so the mark
-//! changes nothing that is asked here; a mark that joins nothing is unfit for
-//! good. Nor does the limit of 256 stop a text that the grammar lets go on: no
-//! name is longer than 63 letters and ".hiroshima.jp", 76 code points; fifteen
-//! characters typed with their marks are only thirty.
+//! and whole are of one kind, stand in the same place of the label, and neither
+//! stands in an ending, so the mark changes nothing that is asked here; a mark
+//! that joins nothing is unfit for good. Nor does the limit of 256 stop a text
+//! that the grammar lets go on: no name is longer than 63 letters and
+//! ".hiroshima.jp", 76 code points; fifteen characters typed with their marks
+//! are only thirty.
 
-use crate::chars::{HYPHEN, MIDDLE_DOT, PERIOD};
-use crate::grammar::{self, second_reader, Reader};
+use crate::chars::{is_japanese, HYPHEN, MIDDLE_DOT, PERIOD};
+use crate::grammar::Reader;
 use crate::name::{japanese_prefectures, latin_prefectures};
 use crate::normal::normal_form;
 use crate::points;
@@ -42,17 +48,54 @@ fn endings() -> &'static Vec<Vec<u32>> {
     })
 }
 
-/// Whether characters can follow that make a label of what was begun.
+/// A way through a label: the second reader, and what K3 asks beside it.
+#[derive(Clone, Copy, Default, PartialEq, Eq, Hash)]
+struct Way {
+    reader: Reader,
+    length: usize,
+    /// How many of the third and the fourth place have a hyphen.
+    set_aside: usize,
+    japanese: bool,
+}
+
+impl Way {
+    /// The way one character on, or none where no label goes on so.
+    fn step(mut self, code: u32) -> Option<Way> {
+        self.reader = self.reader.step(code)?;
+        self.length += 1;
+        self.set_aside += usize::from(code == HYPHEN && (3..=4).contains(&self.length));
+        self.japanese |= is_japanese(code);
+        Some(self)
+    }
+
+    /// Whether what was read may be a leftmost label: it is a whole label and
+    /// does not pretend to be encoded.
+    fn may_end(&self) -> bool {
+        let pretends = self.set_aside == 2 && !self.japanese;
+        self.reader.may_end() && !pretends
+    }
+}
+
+/// The way through what was begun of a label.
+fn read(begun: &[u32]) -> Option<Way> {
+    begun.iter().try_fold(Way::default(), |way, code| way.step(*code))
+}
+
+/// Whether characters can follow that make a leftmost label of what was begun.
 fn may_become_label(begun: &[u32]) -> bool {
-    let mut readers: HashSet<Reader> = grammar::read(begun).into_iter().collect();
+    let mut ways: HashSet<Way> = read(begun).into_iter().collect();
     for _length in begun.len()..=LONGEST_LABEL {
-        if readers.iter().any(Reader::may_end) {
+        if ways.iter().any(Way::may_end) {
             return true;
         }
-        let go_on = |reader: &Reader| KINDS.map(|code| reader.step(code));
-        readers = readers.iter().flat_map(go_on).flatten().collect();
+        let go_on = |way: &Way| KINDS.map(|code| way.step(code));
+        ways = ways.iter().flat_map(go_on).flatten().collect();
     }
     false
+}
+
+fn is_leftmost_label(label: &[u32]) -> bool {
+    read(label).is_some_and(|way| way.may_end())
 }
 
 pub fn may_become(text: &[u32]) -> bool {
@@ -61,6 +104,6 @@ pub fn may_become(text: &[u32]) -> bool {
     let (label, rest) = normal.split_at(end);
     match rest.is_empty() {
         true => may_become_label(label),
-        false => second_reader(label) && endings().iter().any(|ending| ending.starts_with(rest)),
+        false => is_leftmost_label(label) && endings().iter().any(|ending| ending.starts_with(rest)),
     }
 }

@@ -1,4 +1,4 @@
-//! The name rules in the order of document 01.
+//! The name rules in the order of document 01, with row 17 of document 02's K3.
 
 use crate::answer::{Class, Refusal};
 use crate::chars::{is_ascii_set, is_japanese, HYPHEN, MIDDLE_DOT, PERIOD};
@@ -115,22 +115,41 @@ fn breaks_middle_dot_rule(label: &[u32]) -> bool {
     label.contains(&MIDDLE_DOT) && !label.iter().any(|code| is_ordinary(*code))
 }
 
-/// Refusals 7 to 10 of any label, at its place. An ASCII label has at least
-/// so many characters.
-pub fn check_label(label: &[u32], least: usize, place: usize) -> Result<(), Refusal> {
-    check_taken(label, is_japanese_label(label), least, place)
+/// Hyphens in the third and fourth places, which RFC 5891 sets aside.
+fn has_hyphen_pair(label: &[u32]) -> bool {
+    [2, 3].iter().all(|place| label.get(*place) == Some(&HYPHEN))
+}
+
+/// What one family of names wants of a label and another does not.
+#[derive(Clone, Copy, Debug, PartialEq, Eq)]
+pub struct Family {
+    /// So many characters an ASCII label has at least.
+    pub shortest: usize,
+    /// Whether the hyphen pair is refused in Japanese labels too (hosts, K10)
+    /// or in ASCII labels alone (names, K3).
+    pub pair_in_none: bool,
+}
+
+const OF_NAMES: Family = Family { shortest: 3, pair_in_none: false };
+
+/// The first of 7, 8, 9, 17 and 10 that applies to a label, at its place.
+pub fn check_label(label: &[u32], family: Family, place: usize) -> Result<(), Refusal> {
+    check_taken(label, is_japanese_label(label), family, place)
 }
 
 /// The same of a label that is taken for Japanese or for ASCII, whatever it
 /// holds. Document 004 has the middle dot rule for Japanese labels alone.
-pub fn check_taken(label: &[u32], japanese: bool, least: usize, place: usize) -> Result<(), Refusal> {
+pub fn check_taken(label: &[u32], japanese: bool, family: Family, place: usize) -> Result<(), Refusal> {
     let longest = if japanese { 15 } else { 63 };
+    let pair_is_refused = family.pair_in_none || !japanese;
     if label.first() == Some(&HYPHEN) || label.last() == Some(&HYPHEN) {
         Err(Refusal::at(7, place))
-    } else if !japanese && label.len() < least {
+    } else if !japanese && label.len() < family.shortest {
         Err(Refusal::at(8, place))
     } else if label.len() > longest {
         Err(Refusal::at(9, place))
+    } else if pair_is_refused && has_hyphen_pair(label) {
+        Err(Refusal::at(17, place))
     } else if japanese && breaks_middle_dot_rule(label) {
         Err(Refusal::at(10, place))
     } else {
@@ -138,12 +157,12 @@ pub fn check_taken(label: &[u32], japanese: bool, least: usize, place: usize) ->
     }
 }
 
-/// Refusals 7 to 10 of the leftmost label.
+/// The refusals of the leftmost label.
 pub fn check_leftmost(label: &[u32]) -> Result<(), Refusal> {
-    check_label(label, 3, 0)
+    check_label(label, OF_NAMES, 0)
 }
 
-/// The whole check, given room: refusals 2 to 12.
+/// The whole check, given room: refusals 2 to 12, and 17 after 9.
 pub fn check(text: &[u32]) -> Result<Accepted, Refusal> {
     check_length(text)?;
     let placed = placed_normal_form(text);
@@ -170,7 +189,7 @@ pub fn check(text: &[u32]) -> Result<Accepted, Refusal> {
     Ok(Accepted { normal, labels, class })
 }
 
-/// The whole ASCII form, given room: refusals 2 to 12, then 14.
+/// The whole ASCII form, given room: the check's refusals, then 14.
 pub fn ascii_form(text: &[u32]) -> Result<(String, Class), Refusal> {
     let accepted = check(text)?;
     let mut parts = Vec::new();

@@ -8,7 +8,7 @@ use crate::chars;
 use crate::grammar;
 use crate::hope;
 use crate::live::Live;
-use crate::name;
+use crate::name::{self, Family};
 use crate::normal;
 use std::fmt::LowerHex;
 
@@ -52,7 +52,7 @@ fn on_numbers(call: &str, lent: usize, numbers: &[u32]) -> Option<String> {
         "P" => words((0..=lent).map(|entry| normal::place_of(numbers, entry))),
         "K" => characters(numbers),
         "T" => lists(lent, numbers),
-        "Q" => label(numbers)?,
+        "Q" => label(lent, numbers)?,
         _ => return None,
     })
 }
@@ -190,23 +190,25 @@ fn whole(halves: &[u32]) -> usize {
     halves.iter().fold(0, |whole, half| whole << 32 | *half as usize)
 }
 
-/// Refusals 7 to 10 of a label, where one ends, its first unfit character,
-/// whether it is Japanese, the refusals if it is taken for Japanese and for
-/// ASCII, how it may end a name, and what each character of it is. The label
-/// comes after six numbers: the halves of where to begin, of the least length
-/// and of the label's place.
-fn label(numbers: &[u32]) -> Option<String> {
+/// The refusal of a label, where one ends, its first unfit character, whether
+/// it is Japanese, the refusals if it is taken for Japanese and for ASCII, how
+/// it may end a name, and what each character of it is. The label comes after
+/// six numbers: the halves of where to begin, of the least length and of the
+/// label's place. LEN is 0 where the hyphen pair is refused in ASCII labels
+/// alone.
+fn label(lent: usize, numbers: &[u32]) -> Option<String> {
     let (halves, label) = numbers.split_at_checked(6)?;
     let (from, least, place) = (whole(&halves[..2]), whole(&halves[2..4]), whole(&halves[4..]));
+    let family = Family { shortest: least, pair_in_none: lent != 0 };
     let said = |checked: Result<(), Refusal>| match checked {
         Ok(()) => "0 0".to_string(),
         Err(refusal) => format!("{} {}", refusal.number, refusal.place),
     };
-    let rule = said(name::check_label(label, least, place));
+    let rule = said(name::check_label(label, family, place));
     let (end, unfit) = (name::label_end(label, from), name::first_unfit(label));
     let japanese = flag(name::is_japanese_label(label));
-    let for_japanese = said(name::check_taken(label, true, least, place));
-    let for_ascii = said(name::check_taken(label, false, least, place));
+    let for_japanese = said(name::check_taken(label, true, family, place));
+    let for_ascii = said(name::check_taken(label, false, family, place));
     let ending = endings(label);
     let mut out = format!("{rule} {end} {unfit} {japanese} {for_japanese} {for_ascii} {ending}");
     for code in label {

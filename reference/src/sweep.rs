@@ -2,11 +2,13 @@
 
 use crate::cases::characters::{with_jp, MARKS};
 use crate::cases::kinds::IN_A_CASE;
+use crate::cases::labels;
 use crate::cases::probe_line;
 use crate::cases::random::NameMaker;
+use crate::points;
 use crate::random::Random;
 
-pub const PARTS: [&str; 6] = ["first", "second", "above", "marks", "kinds", "random"];
+pub const PARTS: [&str; 7] = ["first", "second", "above", "marks", "kinds", "pairs", "random"];
 
 /// The bases after which the second character is tried.
 const BASES: [u32; 2] = [0x30CF, 0x3046];
@@ -19,6 +21,7 @@ pub fn lines(part: &str) -> Option<Box<dyn Iterator<Item = String>>> {
         "above" => Box::new(above().flat_map(|code| first(code).into_iter().chain(second(code)))),
         "marks" => Box::new((0..0x10000).flat_map(marked)),
         "kinds" => Box::new(kinds()),
+        "pairs" => Box::new(short_labels().into_iter().flat_map(|label| paired(&label))),
         "random" => Box::new(random()),
         _ => return None,
     })
@@ -78,6 +81,39 @@ fn kinds() -> impl Iterator<Item = String> {
     let codes: Vec<u32> = (0..0x30000).chain(above()).chain(marked).collect();
     let lines: Vec<String> = codes.chunks(IN_A_CASE).map(|codes| probe_line('K', 0, codes)).collect();
     lines.into_iter()
+}
+
+/// All labels of up to six characters from five.
+fn short_labels() -> Vec<Vec<u32>> {
+    let longer = |label: &Vec<u32>| {
+        points("a0-\u{3042}\u{30FB}")
+            .into_iter()
+            .map(|code| [&label[..], &[code]].concat())
+            .collect::<Vec<_>>()
+    };
+    let mut labels = vec![Vec::new()];
+    let mut of_length = labels.clone();
+    for _ in 0..6 {
+        of_length = of_length.iter().flat_map(longer).collect();
+        labels.extend(of_length.clone());
+    }
+    labels
+}
+
+/// A label as the leftmost one, and by itself with the hyphen pair refused in
+/// ASCII labels alone and in every label.
+fn paired(label: &[u32]) -> Vec<String> {
+    let text = with_jp(label);
+    let numbers = labels::numbers(0, 3, 0, label);
+    vec![
+        probe_line('C', 256, &text),
+        probe_line('A', 192, &text),
+        probe_line('L', 0, &text),
+        probe_line('M', 0, &text),
+        probe_line('S', 0, label),
+        probe_line('Q', 0, &numbers),
+        probe_line('Q', 1, &numbers),
+    ]
 }
 
 /// Random names as typed, each followed by a damaged copy.

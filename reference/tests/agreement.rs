@@ -1,6 +1,7 @@
 //! Two routes to the same answer, held against each other.
 
-use reference::cases::random::{any_label, NameMaker};
+use reference::answer::Refusal;
+use reference::cases::random::{accepted_lines, any_label, NameMaker};
 use reference::live::Live;
 use reference::random::Random;
 use reference::{cases, chars, coder, grammar, hope, name, normal, utf8};
@@ -9,23 +10,36 @@ use reference::{cases, chars, coder, grammar, hope, name, normal, utf8};
 fn cases_of(calls: &str) -> Vec<Vec<u32>> {
     let lines = cases::all_lines();
     let chosen = lines.iter().filter(|line| calls.contains(&line[..1]));
-    let numbers = chosen.map(|line| {
-        let hex = line.split(' ').skip(2);
-        hex.map(|word| u32::from_str_radix(word, 16).unwrap()).collect()
-    });
-    numbers.collect()
+    chosen.map(|line| cases::numbers_of(line)).collect()
 }
 
-/// The second reader by the numbered rules.
+/// Whether a label is spelled in ASCII with hyphens in its third and fourth
+/// places (K3).
+fn pretends(label: &[u32]) -> bool {
+    let letters = label.iter().map(|code| char::from_u32(*code).filter(char::is_ascii));
+    let spelled: Option<String> = letters.collect();
+    spelled.is_some_and(|spelled| spelled.get(2..4) == Some("--"))
+}
+
+/// The second reader by the numbered rules: none of 7 to 10 applies. 17, which
+/// it does not know, hides none of them: only 10 comes after it, and no label
+/// has both, since the one is of ASCII labels and the other of Japanese ones.
 fn read_by_rules(label: &[u32]) -> bool {
     let fits = |code: &u32| chars::is_ascii_set(*code) || chars::is_japanese(*code);
-    !label.is_empty() && label.iter().all(fits) && name::check_leftmost(label).is_ok()
+    let numbered = |no: Refusal| (7..=10).contains(&no.number);
+    !label.is_empty() && label.iter().all(fits) && !name::check_leftmost(label).is_err_and(numbered)
 }
 
+/// Three readers agree on a label. Of those that they take, the rules refuse
+/// the ones that pretend, with 17.
 fn assert_readers_agree(label: &[u32]) {
     let answer = grammar::second_reader(label);
     assert_eq!(answer, grammar::is_label(label), "{label:x?}");
     assert_eq!(answer, read_by_rules(label), "{label:x?}");
+    let refused = name::check_leftmost(label) == Err(Refusal::plain(17));
+    if answer {
+        assert_eq!(refused, pretends(label), "{label:x?}");
+    }
 }
 
 #[test]
@@ -49,19 +63,24 @@ fn three_readers_of_labels_agree_on_all_short_labels() {
     }
 }
 
+/// The check accepts what the grammar derives, as the same class, but for the
+/// names whose leftmost label pretends to be encoded.
 #[test]
-fn rules_and_grammar_accept_the_same_names() {
+fn rules_accept_what_the_grammar_derives_and_does_not_pretend() {
     let mut random = Random::seeded(3);
     let maker = NameMaker::default();
     let mut texts = cases_of("NCAL");
     texts.extend((0..20_000).map(|_| maker.typed_name(&mut random)));
-    let mut accepted = 0;
+    let (mut accepted, mut pretending) = (0, 0);
     for text in texts.iter().filter(|text| name::check_length(text).is_ok()) {
-        let by_rules = name::check(text).ok().map(|name| name.class);
-        assert_eq!(by_rules, grammar::class_of(&normal::normal_form(text)), "{text:x?}");
-        accepted += usize::from(by_rules.is_some());
+        let normal = normal::normal_form(text);
+        let derived = grammar::class_of(&normal);
+        let kept = derived.filter(|_| !pretends(&normal::labels(&normal)[0]));
+        assert_eq!(name::check(text).ok().map(|name| name.class), kept, "{text:x?}");
+        accepted += usize::from(kept.is_some());
+        pretending += usize::from(derived != kept);
     }
-    assert!(accepted > 10_000);
+    assert!(accepted > 10_000 && pretending > 400, "{accepted} accepted, {pretending} pretending");
 }
 
 /// After a whole label and a period a text may become a name where the second
@@ -154,6 +173,16 @@ fn utf8_is_read_as_the_standard_library_reads_it() {
             agree(&[first, second, tail, 0xBF]);
         }
     }
+}
+
+/// Of random accepted names none pretends, and some Japanese ones have the pair.
+#[test]
+fn samples_do_not_pretend() {
+    let samples: Vec<Vec<u32>> = accepted_lines(3_000, 17).map(|line| cases::numbers_of(&line)).collect();
+    let leftmost = |text: &Vec<u32>| normal::labels(&normal::normal_form(text)).swap_remove(0);
+    assert!(!samples.iter().any(|text| pretends(&leftmost(text))));
+    let has_pair = |label: Vec<u32>| label.get(2..4) == Some(&[0x2D, 0x2D]);
+    assert!(samples.iter().filter(|text| has_pair(leftmost(text))).count() > 50);
 }
 
 /// K2 of document 02: with 2D in place of 2212 a text gets the same answers.

@@ -1,6 +1,7 @@
 //! What the gate's case file must hold.
 
 use reference::cases::coder::mutants;
+use reference::cases::numbers_of;
 use reference::coder::{is_encodable, RFC};
 use reference::{cases, count, normal, probe};
 use std::collections::BTreeSet;
@@ -13,7 +14,7 @@ fn case_file_is_well_formed_and_of_bearable_size() {
     assert!(lines.iter().all(|line| line.len() <= probe::LONGEST_LINE));
     assert!(answers.iter().all(|answer| answer != "?"));
     let size = |lines: &[String]| lines.iter().map(|line| line.len() + 1).sum::<usize>();
-    assert!(size(&lines) < 1_800_000);
+    assert!(size(&lines) < 1_900_000);
     assert!(size(&answers) < 1_500_000);
 }
 
@@ -45,7 +46,7 @@ fn each_number_comes_up_with_each_call_of_its_own() {
                 1 if !lent => 0,
                 0 | 1 | 4 => 20,
                 2 | 3 => 1,
-                5..=12 => 8,
+                5..=12 | 17 => 8,
                 _ => 0,
             };
             assert!(times >= least && (times > 0) == (least > 0), "{call}: {number} comes up {times} times");
@@ -91,7 +92,7 @@ fn each_bent_parameter_is_noticed_by_coder_and_decoder() {
     let labels: Vec<Vec<u32>> = lines
         .iter()
         .filter(|line| line.starts_with("E 63 "))
-        .map(|line| line.split(' ').skip(2).map(|hex| u32::from_str_radix(hex, 16).unwrap()).collect())
+        .map(|line| numbers_of(line))
         .filter(|label: &Vec<u32>| is_encodable(label) && RFC.encode_any(label).len() <= 59)
         .collect();
     for (name, bent) in mutants() {
@@ -163,7 +164,7 @@ fn the_labels_of_the_cases_are_of_every_kind() {
     let labels = lines.iter().filter(|line| line.starts_with('Q'));
     let answers: Vec<String> = labels.map(|line| probe::answer(line.as_bytes())).collect();
     let words: Vec<Vec<&str>> = answers.iter().map(|answer| answer.split(' ').collect()).collect();
-    for number in ["0", "7", "8", "9", "10"] {
+    for number in ["0", "7", "8", "9", "17", "10"] {
         let of_number: Vec<&Vec<&str>> = words.iter().filter(|w| w[0] == number).collect();
         let placed = of_number.iter().filter(|w| w[1] != "0").count();
         assert!(of_number.len() > 100 && if number == "0" { placed == 0 } else { placed > 20 }, "{number}");
@@ -173,7 +174,7 @@ fn the_labels_of_the_cases_are_of_every_kind() {
     }
     // A label is answered as what it is. An ASCII one that is taken for Japanese has no 8, and no middle dot for 10;
     // a Japanese one that is taken for ASCII has no 10.
-    for (at, own, wrong) in [(5, "1", "0 7 9"), (7, "0", "0 7 8 9")] {
+    for (at, own, wrong) in [(5, "1", "0 7 9 17"), (7, "0", "0 7 8 9 17")] {
         assert!(words.iter().filter(|w| w[4] == own).all(|w| w[at..at + 2] == w[..2]));
         let others: Vec<&str> = words.iter().filter(|w| w[4] != own).map(|w| w[at]).collect();
         assert_eq!(others.iter().copied().collect::<BTreeSet<_>>(), wrong.split(' ').collect());
@@ -190,6 +191,29 @@ fn the_labels_of_the_cases_are_of_every_kind() {
     assert!(words.iter().any(|w| w[1] == largest));
     assert!(words.iter().any(|w| w[2] == largest));
     assert!(lines.iter().any(|line| line.starts_with("Q 0 0 0 ffffffff ffffffff ")));
+}
+
+/// LEN changes what is said of a label as Japanese, and nothing else. With 0
+/// such a label never gets 17; with any other number it gets it before 10.
+#[test]
+fn the_pair_is_asked_of_every_label_or_of_ascii_labels_alone() {
+    let lines = cases::all_lines();
+    let mut changed = BTreeSet::new();
+    for line in lines.iter().filter(|line| line.starts_with('Q')) {
+        let (lent, numbers) = line[2..].split_once(' ').unwrap();
+        let [alone, every] = ["0", "1"].map(|lent| probe::answer(format!("Q {lent} {numbers}").as_bytes()));
+        assert_eq!(probe::answer(line.as_bytes()), if lent == "0" { &alone[..] } else { &every[..] });
+        let [alone, every] = [&alone, &every].map(|answer| answer.split(' ').collect::<Vec<_>>());
+        assert!(alone[5] != "17" && (alone[4] == "0" || alone[0] != "17"), "{line}");
+        assert_eq!((&alone[2..5], &alone[7..]), (&every[2..5], &every[7..]), "{line}");
+        if alone[5] != every[5] {
+            assert_eq!(every[5], "17", "{line}");
+            changed.insert((lent == "0", alone[4] == "1", alone[5].to_string()));
+        }
+    }
+    // Of either LEN: Japanese labels with 0 or 10 without it, and ASCII ones, which 10 is not asked of.
+    let seen = |lent| [(true, "0"), (true, "10"), (false, "0")].map(|(own, no)| (lent, own, no.to_string()));
+    assert_eq!(changed, seen(true).into_iter().chain(seen(false)).collect());
 }
 
 /// Every kind of character, each answer of every flag, and every composition.

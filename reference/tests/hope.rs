@@ -131,15 +131,46 @@ fn short_labels_may_where_two_characters_and_an_ending_make_a_name() {
 fn long_labels_may_where_two_characters_and_an_ending_make_a_name() {
     let kinds = points(LABEL_KINDS);
     let ends = all_texts(&kinds, 2);
-    for (front, unit) in [("", "a"), ("", "\u{3042}"), ("", "\u{30FB}"), ("", "\u{30FC}"), ("\u{4E9C}", "a")]
-    {
-        for length in (12..=16).chain(60..=64) {
-            let label = points(&format!("{front}{}", unit.repeat(length)));
+    let labels = [
+        ("", "a"),
+        ("", "\u{3042}"),
+        ("", "\u{30FB}"),
+        ("", "\u{30FC}"),
+        ("\u{4E9C}", "a"),
+        ("ab--", "a"),
+        ("ab--", "\u{30FB}"),
+        ("\u{3042}b--", "a"),
+        ("abc--", "a"),
+    ];
+    for (front, unit) in labels {
+        for length in (11..=16).chain(59..=64) {
+            let more = length - front.chars().count();
+            let label = points(&format!("{front}{}", unit.repeat(more)));
             for end in &ends {
                 let text = with(&label, end);
                 assert_eq!(may_become(&text), found(&text, &kinds, 2), "{text:x?}");
             }
         }
+    }
+}
+
+/// A label with the hyphen pair, of every length: as long as it is ASCII it may
+/// become a name only while a Japanese character finds room among fifteen, and
+/// it is never whole.
+#[test]
+fn labels_that_pretend_may_only_become_japanese() {
+    for length in 4..=70 {
+        let label = points(&format!("ab--{}", "c".repeat(length - 4)));
+        assert_eq!(may_become(&label), length <= 14, "{length}");
+        assert_eq!(found(&label, &points("a\u{3042}"), 1), length <= 14, "{length}");
+        let hyphened = with(&label, &[0xFF0D]);
+        assert_eq!(may_become(&hyphened), length <= 13, "{length}");
+        for next in [".", ".j", "\u{3002}jp", "\u{FF61}nara.jp"] {
+            assert!(!may_become(&with(&label, &points(next))), "{length}");
+        }
+        let japanese = with(&label, &[0x3042]);
+        assert_eq!(may_become(&japanese), length <= 14, "{length}");
+        assert_eq!(may_become(&with(&japanese, &[0x2E])), length <= 14, "{length}");
     }
 }
 
@@ -155,6 +186,8 @@ fn second_and_third_labels_may_where_the_end_of_an_ending_makes_a_name() {
     };
     for rest in all_texts(&points("jptoky.-\u{6771}\u{4EAC}"), 3) {
         agree(&with(&points("abc."), &rest));
+        agree(&with(&points("ab--\u{3042}."), &rest));
+        agree(&with(&points("ab--c."), &rest));
     }
     for ending in &endings {
         for end in 1..=ending.len() {
@@ -184,12 +217,19 @@ fn long(unit: &str, times: usize, end: &str) -> String {
 #[test]
 fn texts_that_may_become_a_name() {
     let mut texts: Vec<String> =
-        "a ab abc abc. abc.j abc.jp ABC.J abc.tok abc.tokyo abc.tokyo. abc.tokyo.j abc.tokyo.jp a- a--"
+        "a ab abc abc. abc.j abc.jp ABC.J abc.tok abc.tokyo abc.tokyo. abc.tokyo.j abc.tokyo.jp a- a-- \
+         ab-- ab--c ab--- a---b ab--c- ab-c. a--b. abc--d."
             .split(' ')
             .map(String::from)
             .collect();
     texts.extend([
         String::new(),
+        "ab--\u{3042}.".to_string(),
+        "\u{3042}b--c.".to_string(),
+        "ab--\u{30FB}".to_string(),
+        "xn\u{2212}\u{FF0D}l8j".to_string(),
+        "ab--cdefghijkl".to_string(),
+        "ab--cdefghijkl\u{3042}.".to_string(),
         "\u{30FB}".to_string(),
         "\u{30FB}\u{3006}-".to_string(),
         "\u{FF76}".to_string(),
@@ -212,12 +252,17 @@ fn texts_that_may_become_a_name() {
 #[test]
 fn texts_that_are_refused_for_good() {
     let mut texts: Vec<String> =
-        "- -a . ab. a-. abc.c- abc.jpx abc.jp. abc.jp-a abc.toki abc.tok. abc.tokyo.p abc.tokyo.jp. abc.x.jp"
+        "- -a . ab. a-. abc.c- abc.jpx abc.jp. abc.jp-a abc.toki abc.tok. abc.tokyo.p abc.tokyo.jp. abc.x.jp \
+         ab--. ab--c. ab--c.jp xn--l8j.tokyo.jp a---b. ab---c. AB--C. ab--cdefghijklm ab--cdefghijklmn"
             .split(' ')
             .map(String::from)
             .collect();
     texts.extend([
         "a ".to_string(),
+        "ab\u{2212}\u{FF0D}c\u{3002}".to_string(),
+        "ab--\u{30FB}.".to_string(),
+        "ab--cdefghijklm\u{3042}".to_string(),
+        "ab--".to_string() + &long("c", 59, ""),
         "\u{3046}\u{309B}".to_string(),
         "\u{309B}".to_string(),
         "\u{304B}\u{309B}\u{309B}".to_string(),

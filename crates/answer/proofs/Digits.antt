@@ -70,10 +70,10 @@ place-bound P text room =
     (of-two Near (frontRows P text ++ nameRows P ls) _ (of-two Near (frontRows P text) (nameRows P ls) (front-near P text) (name-near P ls))
     (all-near (row 14 (anyOf (uncoded P) ls) 0 ∷ []) refl))
 
--- 14 is the largest, and 16 that of a bad line
-pub number-bound : (P : Permits) (text : List ℕ) (room : ℕ) → first (asciiRows P text room) .number ≤ 14
+-- 17 is the largest; a bad line has 16
+pub number-bound : (P : Permits) (text : List ℕ) (room : ℕ) → first (asciiRows P text room) .number ≤ 17
 unfolding asciiRows textRows frontRows nameRows labelRows allOf
-number-bound P text room = leb-true _ 14 (of-rows (λ (a : Answer). leb (a .number) 14) refl (asciiRows P text room) refl)
+number-bound P text room = leb-true _ 17 (of-rows (λ (a : Answer). leb (a .number) 17) refl (asciiRows P text room) refl)
 
 -- ---- so the digits of an answer say its number and its place
 

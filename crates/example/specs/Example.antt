@@ -18,7 +18,7 @@ use Rattle.rules.specs.Labels.{period, intoFirst, labels, join}
 use Rattle.rules.specs.Permits.{jaChar, labelChar, middle, isEmpty}
 use Rattle.rules.specs.Prefectures.{prefectures}
 use Rattle.rules.specs.Rules.{unfit, middleDot, ordinary, isJapanese, beginsWithHyphen}
-use Rattle.rules.specs.Rules.{endsWithHyphen, hyphenEdge, short, long, bareDot}
+use Rattle.rules.specs.Rules.{endsWithHyphen, hyphenEdge, short, long, hyphenPair, pretends, bareDot}
 use Rattle.rules.specs.Rules.{labelRows, jp, nameRows, frontRows, textRows, verdict}
 use Rattle.names.specs.Calls.{asciiLabel, asciiForm, uncoded, asciiRows}
 use Rattle.unicode.specs.Utf8.{scalar, proper, decodeFrom}
@@ -49,8 +49,8 @@ unfolding input output first within allOf anyOf indexOf elem same Rattle.charac
     normalPlaced normalForm places coderNumber digit adaptLoop damped adapt threshold varint add emit point points
     nearer least passes below delimiter initial extended encode ace Rattle.punycode.specs.Punycode.alnum ldh wide
     allowed encodable middle today period intoFirst labels join jaChar labelChar isEmpty prefectures unfit
-    middleDot ordinary isJapanese beginsWithHyphen endsWithHyphen hyphenEdge short long bareDot labelRows jp nameRows
-    frontRows textRows Rattle.rules.specs.Rules.classOf verdict asciiLabel asciiForm uncoded asciiRows
-    tab idOf nameOf oneTab idByte goodId badLine decimalBy decimal letter answerLine goodAnswer answerTo lf linesFrom
-    lines answers batch scalar proper decodeFrom
+    middleDot ordinary isJapanese beginsWithHyphen endsWithHyphen hyphenEdge short long hyphenPair pretends bareDot
+    labelRows jp nameRows frontRows textRows Rattle.rules.specs.Rules.classOf verdict asciiLabel asciiForm uncoded
+    asciiRows tab idOf nameOf oneTab idByte goodId badLine decimalBy decimal letter answerLine goodAnswer answerTo lf
+    linesFrom lines answers batch scalar proper decodeFrom
 printed = refl

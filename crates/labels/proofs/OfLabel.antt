@@ -6,7 +6,7 @@ use mathlib.Core.List.{List, [], _∷_}
 use Prim.Native.Nat.{ℕ, _-_, _≤_, _<_}
 use native.Mathlib.Omega.{arith}
 use lib.Dec.{eqb, ltb}
-use lib.ListN.{length, getD}
+use lib.ListN.{length, getD, List·getD-eq-default}
 use borrow.Author.Tests.{eq-eqb, ne-eqb, eqb-true, eqb-false}
 use Rattle.lists.specs.Tests.{pick, within, anyOf, elem}
 use Rattle.lists.specs.Rows.{row, first}
@@ -17,7 +17,7 @@ use Rattle.characters.specs.Characters.{asciiSet, hyphen, hiragana, katakana, s
 use Rattle.characters.proofs.Bounds.{with-below}
 use Rattle.rules.specs.Labels.{period}
 use Rattle.rules.specs.Permits.{Permits, jaChar, labelChar}
-use Rattle.rules.specs.Rules.{unfit, middleDot, ordinary, isJapanese, beginsWithHyphen, endsWithHyphen, hyphenEdge, short, long, bareDot, labelRows}
+use Rattle.rules.specs.Rules.{unfit, middleDot, ordinary, isJapanese, beginsWithHyphen, endsWithHyphen, hyphenEdge, short, long, hyphenPair, Asks, pretendsAs, pretends, bareDot, labelRows}
 use Rattle.rules.specs.Editions.{todayWith}
 use Rattle.rules.proofs.Sound.{ascii-range}
 use Rattle.rules.proofs.Steps.{edge-at}
@@ -130,7 +130,31 @@ long-japanese n j e = rw e
 pub long-ascii : (n : ℕ) (j : Bool) → j ≡ false → ltb 63 n ≡ ltb (pick j 15 63) n
 long-ascii n j e = rw e
 
--- ---- 7 to 10
+-- ---- the hyphens in the third and fourth places
+
+module _ (l : List ℕ) where
+  pub no-pair : length l < 4 → false ≡ hyphenPair l
+  unfolding hyphenPair hyphen
+  no-pair h = rw (List·getD-eq-default l 0 {n = 3} (omega arith)) (sym (and-false (eqb (getD l 2 0) 0x2D)))
+
+  pub no-third : (getD l 2 0 ≡ 0x2D → ⊥) → false ≡ hyphenPair l
+  unfolding hyphenPair hyphen
+  no-third n = rw (ne-eqb (getD l 2 0) 0x2D n)
+
+  pub by-fourth : getD l 2 0 ≡ 0x2D → eqb (getD l 3 0) 0x2D ≡ hyphenPair l
+  unfolding hyphenPair hyphen
+  by-fourth e = rw (eq-eqb (getD l 2 0) 0x2D e)
+
+pub pair-refused : (l : List ℕ) {p r s : Bool} → p ≡ hyphenPair l → p ≡ true → r ≡ s → r ≡ (hyphenPair l && s)
+pair-refused l e t q = q ∙ rw (← e, t)
+
+pub pair-none : (l : List ℕ) {p : Bool} (s : Bool) → p ≡ hyphenPair l → p ≡ false → false ≡ (hyphenPair l && s)
+pair-none l s e t = rw (← e, t)
+
+pub ascii-refused : {e : Bool} (j : Bool) → e ≡ false → not j ≡ (e || not j)
+ascii-refused j f = rw f
+
+-- ---- 7 to 10 and 17
 
 -- the middle dot is Japanese, whatever table is lent
 pub lent-dot : (table : List ℕ) → jaChar (todayWith table) 0x30FB ≡ true
@@ -153,35 +177,40 @@ module _ (P : Permits) (ja : jaChar P 0x30FB ≡ true) (l : List ℕ) where
       go false p true q = clash (any-weaker middleDot (jaChar P) dot-ja l q) p
       go false p false q = refl
 
-  pub rows-are : (least at : ℕ) {j : Bool} → j ≡ isJapanese P l → first (knownRows P j least l at) ≡ first (labelRows P least l at)
-  unfolding knownRows labelRows short long
-  rows-are least at e = rw (e, only-japanese)
+  pub rows-are : (A : Asks) (at : ℕ) {j : Bool} → j ≡ isJapanese P l → first (knownRows P j A l at) ≡ first (labelRows P A l at)
+  unfolding knownRows labelRows short long pretends
+  rows-are A at e = rw (e, only-japanese)
 
-module _ (P : Permits) (j : Bool) (least : ℕ) (l : List ℕ) (at : ℕ) {e : Bool} (e7 : e ≡ hyphenEdge l) where
+module _ (P : Permits) (j : Bool) (A : Asks) (l : List ℕ) (at : ℕ) {e : Bool} (e7 : e ≡ hyphenEdge l) where
   abbrev Rules : ℕ → ℕ → Type 0
-  Rules n p = _≡_ {A = Answer} (record { number = n; place = p }) (first (knownRows P j least l at))
+  Rules n p = _≡_ {A = Answer} (record { number = n; place = p }) (first (knownRows P j A l at))
 
   pub rule-7 : e ≡ true → Rules 7 at
   unfolding knownRows
   rule-7 p = sym (hit 7 _ at _ (sym e7 ∙ p))
 
-  module _ (p : e ≡ false) {s : Bool} (e8 : s ≡ (not j && ltb (length l) least)) where
+  module _ (p : e ≡ false) {s : Bool} (e8 : s ≡ (not j && ltb (length l) (A .least))) where
     pub rule-8 : s ≡ true → Rules 8 at
     unfolding knownRows
     rule-8 q = sym (passed-over 7 _ at _ (sym e7 ∙ p) ∙ hit 8 _ at _ (sym e8 ∙ q))
 
     module _ (q : s ≡ false) {g : Bool} (e9 : g ≡ ltb (pick j 15 63) (length l)) where
       -- the answer of the rows from 9 on
-      from-9 : {a : Answer} → first (row 9 (ltb (pick j 15 63) (length l)) at ∷ row 10 (j && bareDot P l) at ∷ []) ≡ a → first (knownRows P j least l at) ≡ a
+      from-9 : {a : Answer} → first (row 9 (ltb (pick j 15 63) (length l)) at ∷ row 17 (pretendsAs j A l) at ∷ row 10 (j && bareDot P l) at ∷ []) ≡ a
+          → first (knownRows P j A l at) ≡ a
       unfolding knownRows
       from-9 r = passed-over 7 _ at _ (sym e7 ∙ p) ∙ passed-over 8 _ at _ (sym e8 ∙ q) ∙ r
 
       pub rule-9 : g ≡ true → Rules 9 at
       rule-9 r = sym (from-9 (hit 9 _ at _ (sym e9 ∙ r)))
 
-      module _ (r : g ≡ false) {d : Bool} (e10 : d ≡ (j && bareDot P l)) where
-        pub rule-10 : d ≡ true → Rules 10 at
-        rule-10 t = sym (from-9 (passed-over 9 _ at _ (sym e9 ∙ r) ∙ hit 10 _ at _ (sym e10 ∙ t)))
+      module _ (r : g ≡ false) {h : Bool} (e17 : h ≡ pretendsAs j A l) where
+        pub rule-17 : h ≡ true → Rules 17 at
+        rule-17 t = sym (from-9 (passed-over 9 _ at _ (sym e9 ∙ r) ∙ hit 17 _ at _ (sym e17 ∙ t)))
 
-        pub rule-0 : d ≡ false → Rules 0 0
-        rule-0 t = sym (from-9 (clear _ (sym e9 ∙ r, (sym e10 ∙ t, tt))))
+        module _ (t : h ≡ false) {d : Bool} (e10 : d ≡ (j && bareDot P l)) where
+          pub rule-10 : d ≡ true → Rules 10 at
+          rule-10 u = sym (from-9 (passed-over 9 _ at _ (sym e9 ∙ r) ∙ passed-over 17 _ at _ (sym e17 ∙ t) ∙ hit 10 _ at _ (sym e10 ∙ u)))
+
+          pub rule-0 : d ≡ false → Rules 0 0
+          rule-0 u = sym (from-9 (clear _ (sym e9 ∙ r, (sym e17 ∙ t, (sym e10 ∙ u, tt)))))

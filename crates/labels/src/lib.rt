@@ -1,9 +1,9 @@
-// One label of a normal form: where it ends, what may stand in it, and what rules 7 to 10 say of it, for every family of names. Each
-// call takes any slice and says all of its result. Its meaning is defined in `rules` (specs/Labels, Permits, Rules), and where a call
+// One label of a normal form: where it ends, what may stand in it, and what rules 7 to 10 and 17 say of it, for every family of names.
+// Each call takes any slice and says all of its result. Its meaning is defined in `rules` (specs/Labels, Permits, Rules), and where a call
 // is told whether the label is Japanese, here in specs/Known.
 use lists::Answer;
 ghost use mathlib.Core.Path.{_≡_};
-ghost use mathlib.Core.Bool.{not, _&&_};
+ghost use mathlib.Core.Bool.{not, _&&_, _||_};
 ghost use Prim.Native.Nat.{_+_};
 ghost use lib.Dec.{ltb};
 ghost use lib.ListN.{drop};
@@ -11,11 +11,11 @@ ghost use Rattle.lists.specs.Tests.{pick, indexOf, anyOf};
 ghost use Rattle.lists.specs.Rows.{first};
 ghost use Rattle.rules.specs.Labels.{period};
 ghost use Rattle.rules.specs.Permits.{jaChar, labelChar};
-ghost use Rattle.rules.specs.Rules.{unfit, ordinary, isJapanese, hyphenEdge, bareDot, labelRows};
+ghost use Rattle.rules.specs.Rules.{unfit, ordinary, isJapanese, hyphenEdge, hyphenPair, asks, bareDot, labelRows};
 ghost use Rattle.rules.specs.Editions.{todayWith};
 ghost use Rattle.labels.specs.Known.{knownRows};
 
-// The numbers that rules 7 to 10 answer (document 01).
+// The numbers that rules 7 to 10 (document 01) and 17 (document 02, K3) answer.
 const ACCEPTED: u8 = 0;
 
 const HYPHEN_EDGE: u8 = 7;
@@ -23,6 +23,8 @@ const HYPHEN_EDGE: u8 = 7;
 const TOO_SHORT: u8 = 8;
 
 const TOO_LONG: u8 = 9;
+
+const PRETENDING: u8 = 17;
 
 const BARE_DOT: u8 = 10;
 
@@ -186,41 +188,72 @@ fn is_long(n: usize, japanese: bool) -> bool
     63 < n
 }
 
-// The first of 7 to 10 that applies to a label that is known to be Japanese or not; an ASCII one must have `least` characters, and
-// `at` is its place.
+// Hyphens in its third and fourth places?
+fn has_pair(label: &[u32]) -> bool
+    ensures { λ r. ⌜ r ≡ hyphenPair (now (label .entry)) ⌝ }
+{
+    if label.len() < 4 {
+        return false;
+    }
+    if label[2] != HYPHEN {
+        return false;
+    }
+    label[3] == HYPHEN
+}
+
+// Is a label refused for them? An ASCII one is; with `every` a Japanese one too.
+fn refuses_pair(japanese: bool, every: bool) -> bool
+    ensures { λ r. ⌜ r ≡ (every || not japanese) ⌝ }
+{
+    if every {
+        return true;
+    }
+    !japanese
+}
+
+// Does it pretend to be encoded?
+fn is_pretending(label: &[u32], japanese: bool, every: bool) -> bool
+    ensures { λ r. ⌜ r ≡ (hyphenPair (now (label .entry)) && (every || not japanese)) ⌝ }
+{
+    if has_pair(label) {
+        return refuses_pair(japanese, every);
+    }
+    false
+}
+
+fn refused(number: u8, at: usize) -> Answer
+    ensures { λ r. ⌜ r ≡ record { number = number; place = at } ⌝ }
+{
+    Answer { number, place: at }
+}
+
+// The first of 7 to 10 and 17 that applies to a label that is known to be Japanese or not. An ASCII one must have `least` characters,
+// with `every` 17 is asked of a Japanese one too, and `at` is the label's place.
 pub fn known_rule_with(
     kanji: &[u32],
     label: &[u32],
     japanese: bool,
     least: usize,
+    every: bool,
     at: usize,
 ) -> Answer
-    ensures { λ r. ⌜ r ≡ first (knownRows (todayWith (now (kanji .entry))) japanese least (now (label .entry)) at) ⌝ }
+    ensures { λ r. ⌜ r ≡ first (knownRows (todayWith (now (kanji .entry))) japanese (asks least every) (now (label .entry)) at) ⌝ }
 {
     if has_edge(label) {
-        return Answer {
-            number: HYPHEN_EDGE,
-            place: at,
-        };
+        return refused(HYPHEN_EDGE, at);
     }
     let n = label.len();
     if is_short(n, japanese, least) {
-        return Answer {
-            number: TOO_SHORT,
-            place: at,
-        };
+        return refused(TOO_SHORT, at);
     }
     if is_long(n, japanese) {
-        return Answer {
-            number: TOO_LONG,
-            place: at,
-        };
+        return refused(TOO_LONG, at);
+    }
+    if is_pretending(label, japanese, every) {
+        return refused(PRETENDING, at);
     }
     if is_bare(kanji, label, japanese) {
-        return Answer {
-            number: BARE_DOT,
-            place: at,
-        };
+        return refused(BARE_DOT, at);
     }
     Answer {
         number: ACCEPTED,
@@ -229,9 +262,9 @@ pub fn known_rule_with(
 }
 
 // The same of any label.
-pub fn label_rule_with(kanji: &[u32], label: &[u32], least: usize, at: usize) -> Answer
-    ensures { λ r. ⌜ r ≡ first (labelRows (todayWith (now (kanji .entry))) least (now (label .entry)) at) ⌝ }
+pub fn label_rule_with(kanji: &[u32], label: &[u32], least: usize, every: bool, at: usize) -> Answer
+    ensures { λ r. ⌜ r ≡ first (labelRows (todayWith (now (kanji .entry))) (asks least every) (now (label .entry)) at) ⌝ }
 {
     let japanese = holds_japanese_with(kanji, label);
-    known_rule_with(kanji, label, japanese, least, at)
+    known_rule_with(kanji, label, japanese, least, every, at)
 }

@@ -1,14 +1,14 @@
 -- The first row that applies: found by passing over the rows that do not.
 -- Assumes nothing.
-use mathlib.Core.Path.{_≡_, refl}
-use mathlib.Core.Bool.{Bool, true, false}
+use mathlib.Core.Path.{_≡_, refl, sym, ap, _∙_}
+use mathlib.Core.Bool.{Bool, true, false, false≢true}
 use mathlib.Core.List.{List, [], _∷_, _++_}
 use Prim.Native.Nat.{ℕ}
 use native.Mathlib.Omega.{arith}
-use lib.Dec.{ltb}
-use borrow.Author.Tests.{eq-eqb, ne-eqb, ltb-true}
+use lib.Dec.{eqb, ltb}
+use borrow.Author.Tests.{eqb-true, eqb-false, eq-eqb, ne-eqb, ltb-true}
 use Rattle.lists.specs.Tests.{pick, allOf}
-use Rattle.lists.specs.Rows.{Row, row, accepted, says, first, Clear, given}
+use Rattle.lists.specs.Rows.{Row, row, accepted, says, first, without, Clear, given}
 use Rattle.lists.specs.declared.Answer.{Answer}
 use Rattle.lists.proofs.Laws.{both}
 
@@ -90,6 +90,81 @@ of-rows f z (r ∷ rs) w =
     go : (b : Bool) → f (says r) ≡ true → f (first rs) ≡ true → f (pick b (says r) (first rs)) ≡ true
     go true p q = p
     go false p q = q
+
+-- ---- a table without the rows of a number, and these rows alone
+
+unfoldable pub only : ℕ → List Row → List Row
+only n [] = []
+only n (r ∷ rs) = pick (eqb (r .number) n) (r ∷ only n rs) (only n rs)
+
+-- no row applies exactly where no other does, and none of these
+pub part-clear : (n : ℕ) (rs : List Row) → Clear rs → Clear (without n rs) × Clear (only n rs)
+unfolding without only
+part-clear n [] c = (tt, tt)
+part-clear n (r ∷ rs) c = go (eqb (r .number) n) (part-clear n rs (c .1))
+  where
+    go : (b : Bool) → Clear (without n rs) × Clear (only n rs)
+        → Clear (pick b (without n rs) (r ∷ without n rs)) × Clear (pick b (r ∷ only n rs) (only n rs))
+    go true k = (k .0, (c .0, k .1))
+    go false k = ((c .0, k .0), k .1)
+
+pub whole-clear : (n : ℕ) (rs : List Row) → Clear (without n rs) → Clear (only n rs) → Clear rs
+unfolding without only
+whole-clear n [] c d = tt
+whole-clear n (r ∷ rs) c d = go (eqb (r .number) n) c d (whole-clear n rs)
+  where
+    go : (b : Bool) → Clear (pick b (without n rs) (r ∷ without n rs)) → Clear (pick b (r ∷ only n rs) (only n rs))
+        → (Clear (without n rs) → Clear (only n rs) → Clear rs) → Clear (r ∷ rs)
+    go true c d on = (d .0, on c (d .1))
+    go false c d on = (c .0, on (c .1) d)
+
+pub without-both : (n : ℕ) (rs ss : List Row) → without n (rs ++ ss) ≡ without n rs ++ without n ss
+unfolding without
+without-both n [] ss = refl
+without-both n (r ∷ rs) ss = go (eqb (r .number) n) (without-both n rs ss)
+  where
+    go : (b : Bool) → without n (rs ++ ss) ≡ without n rs ++ without n ss
+        → pick b (without n (rs ++ ss)) (r ∷ without n (rs ++ ss)) ≡ pick b (without n rs) (r ∷ without n rs) ++ without n ss
+    go true e = e
+    go false e = ap (λ (ts : List Row). r ∷ ts) e
+
+-- where no other row applies these give the answer
+pub first-only : (n : ℕ) (rs : List Row) → Clear (without n rs) → first rs ≡ first (only n rs)
+unfolding first without only
+first-only n [] c = refl
+first-only n (r ∷ rs) c = go (eqb (r .number) n) c (first-only n rs)
+  where
+    go : (b : Bool) → Clear (pick b (without n rs) (r ∷ without n rs)) → (Clear (without n rs) → first rs ≡ first (only n rs))
+        → pick (r .applies) (says r) (first rs) ≡ first (pick b (r ∷ only n rs) (only n rs))
+    go true c on = rw (on c)
+    go false c on = rw (c .0) (on (c .1))
+
+-- where they do not apply no answer has their number, if it is not 0
+pub never-given : (n : ℕ) → (0 ≡ n → ⊥) → (rs : List Row) → Clear (only n rs) → first rs .number ≡ n → ⊥
+unfolding first only
+never-given n z [] c e = z e
+never-given n z (r ∷ rs) c e = go (r .applies) refl (eqb (r .number) n) refl c e (never-given n z rs)
+  where
+    go : (a : Bool) → r .applies ≡ a → (b : Bool) → eqb (r .number) n ≡ b → Clear (pick b (r ∷ only n rs) (only n rs))
+        → (pick a (says r) (first rs)) .number ≡ n → (Clear (only n rs) → first rs .number ≡ n → ⊥) → ⊥
+    go true p true q c e on = false≢true (sym (c .0) ∙ p)
+    go true p false q c e on = eqb-false (r .number) n q e
+    go false p true q c e on = on (c .1) e
+    go false p false q c e on = on c e
+
+-- an answer with another number is the answer without them too
+pub first-without : (n : ℕ) (rs : List Row) → (first rs .number ≡ n → ⊥) → first (without n rs) ≡ first rs
+unfolding first without
+first-without n [] h = refl
+first-without n (r ∷ rs) h = go (r .applies) (eqb (r .number) n) refl h (first-without n rs)
+  where
+    go : (a b : Bool) → eqb (r .number) n ≡ b → ((pick a (says r) (first rs)) .number ≡ n → ⊥)
+        → ((first rs .number ≡ n → ⊥) → first (without n rs) ≡ first rs)
+        → first (pick b (without n rs) (row (r .number) a (r .place) ∷ without n rs)) ≡ pick a (says r) (first rs)
+    go true true p h on = absurd (h (eqb-true (r .number) n p))
+    go true false p h on = refl
+    go false true p h on = on h
+    go false false p h on = on h
 
 -- ---- what is given
 

@@ -1,4 +1,5 @@
--- The numbers that a call may answer: a table of rows in the order of document 01, the first that applies is given.
+-- The numbers that a call may answer: a table of rows in the order of documents 01 and 02, the first that applies is
+-- given.
 use mathlib.Core.Bool.{Bool, false}
 use mathlib.Core.List.{List, [], _∷_}
 use mathlib.Core.Path.{_≡_}
@@ -28,6 +29,11 @@ says r = record { number = r .number; place = r .place }
 unfoldable pub first : List Row → Answer
 first [] = accepted
 first (r ∷ rs) = pick (r .applies) (says r) (first rs)
+
+-- the table without the rows of a number
+unfoldable pub without : ℕ → List Row → List Row
+without n [] = []
+without n (r ∷ rs) = pick (eqb (r .number) n) (without n rs) (r ∷ without n rs)
 
 -- no row of the table applies
 abbrev pub Clear : List Row → Type 0

@@ -123,7 +123,7 @@ module _ (P : Permits) (stretch : InStretch P) where
         let p = ascii-first (length before) h ∙ clear (textRows P text) (text-cleared P text e) in
         (ap (λ (x : AsciiForm). x .number) (a .result) ∙ rw p, a .buffer ∙ rw p)
 
-    -- none of 2 to 12 is 14
+    -- none of 2 to 12 and 17 is 14
     text-not-14 : eqb (first (textRows P text) .number) 14 ≡ false
     unfolding textRows frontRows nameRows labelRows allOf
     text-not-14 = not-true _ (of-rows (λ (a : Answer). not (eqb (a .number) 14)) refl (textRows P text) refl)

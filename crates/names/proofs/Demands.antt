@@ -1,5 +1,5 @@
--- The calls accept exactly what the grammar derives, from their statements alone: with room the check and the whole ASCII form say what the
--- rules say of the text, since row 1 does not apply and row 14 never does (Coded), and the rules accept exactly what the grammar derives.
+-- The calls accept exactly what derives from the grammar and does not pretend, from their statements alone: with room the check and the whole ASCII
+-- form say what the rules say of the text, since row 1 does not apply and row 14 never does (Coded), and the rules accept exactly that.
 -- Assumes nothing.
 use mathlib.Core.Path.{_≡_, refl, sym, ap, _∙_}
 use mathlib.Core.List.{List}
@@ -15,7 +15,7 @@ use Rattle.normal.specs.Normal.{normalForm}
 use Rattle.rules.specs.Labels.{labels}
 use Rattle.rules.specs.Permits.{Permits, Laws}
 use Rattle.rules.specs.Rules.{textRows, verdict, rules, accepted}
-use Rattle.rules.specs.Grammar.{Derives}
+use Rattle.rules.specs.Pretends.{Admitted}
 use Rattle.rules.specs.Editions.{today}
 use Rattle.rules.specs.declared.Class.{Class}
 use Rattle.rules.specs.declared.Verdict.{Verdict}
@@ -32,9 +32,9 @@ answers-say : {R : Type 0} {make : Verdict → ℕ → R} (said : R → Verdict)
 unfolding rules
 answers-say said back P {text = text} a e = ap said (a .result) ∙ back _ _ ∙ ap (λ (x : Answer). verdict x (labels (normalForm text))) e
 
--- what says what the rules say of a text is 0 with a class exactly where its normal form derives as a name of that class
+-- what says what the rules say of a text is 0 with a class exactly where its normal form is admitted as a name of that class
 said-derives : (P : Permits) → Laws P → (text : List ℕ) (v : Verdict) → v ≡ rules P text → (k : Class)
-    → ((v .number ≡ 0) × (v .class ≡ k)) ↔ Derives P k (normalForm text)
+    → ((v .number ≡ 0) × (v .class ≡ k)) ↔ Admitted P k (normalForm text)
 said-derives P L text v e k = (λ p. accepted-derives P L text k .0 (whole p), λ d. of (e ∙ accepted-derives P L text k .1 d))
   where
     whole : (v .number ≡ 0) × (v .class ≡ k) → rules P text ≡ accepted k
@@ -54,7 +54,7 @@ module _ (P : Permits) {text before after : List ℕ} {r : Checked} (c : Checks 
   unfolding checkRows
   check-says = answers-say checkSaid (λ v n. refl) P c (passed-over 1 (ltb (length before) 256) 0 (textRows P text) (le-ltb (length before) 256 room))
 
-  pub check-derives : Laws P → (k : Class) → ((r .number ≡ 0) × (r .class ≡ k)) ↔ Derives P k (normalForm text)
+  pub check-derives : Laws P → (k : Class) → ((r .number ≡ 0) × (r .class ≡ k)) ↔ Admitted P k (normalForm text)
   check-derives L = said-derives P L text (checkSaid r) check-says
 
 -- ---- the whole ASCII form
@@ -63,17 +63,17 @@ module _ (P : Permits) (L : Laws P) {text before after : List ℕ} {r : AsciiFor
   pub ascii-says : asciiSaid r ≡ rules P text
   ascii-says = answers-say asciiSaid (λ v n. refl) P a (ascii-first P (L .stretch) (L .middle-short) text (length before) room)
 
-  pub ascii-derives : (k : Class) → ((r .number ≡ 0) × (r .class ≡ k)) ↔ Derives P k (normalForm text)
+  pub ascii-derives : (k : Class) → ((r .number ≡ 0) × (r .class ≡ k)) ↔ Admitted P k (normalForm text)
   ascii-derives = said-derives P L text (asciiSaid r) ascii-says
 
 -- ---- at the edition in force
 
 module _ {text before after : List ℕ} where
   pub check-today : {r : Checked} → Checks today text before after r → 256 ≤ length before → (k : Class)
-      → ((r .number ≡ 0) × (r .class ≡ k)) ↔ Derives today k (normalForm text)
+      → ((r .number ≡ 0) × (r .class ≡ k)) ↔ Admitted today k (normalForm text)
   check-today c room = check-derives today c room today-laws
 
   -- 14 is no other way out: it never comes (Coded, never-14-today)
   pub ascii-today : {r : AsciiForm} → AsciiForms today text before after r → 192 ≤ length before → (k : Class)
-      → ((r .number ≡ 0) × (r .class ≡ k)) ↔ Derives today k (normalForm text)
+      → ((r .number ≡ 0) × (r .class ≡ k)) ↔ Admitted today k (normalForm text)
   ascii-today a room = ascii-derives today today-laws a room

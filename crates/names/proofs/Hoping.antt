@@ -1,7 +1,7 @@
 -- Whether a text may yet become a name: each return of the code is a case of the definition.
 -- Assumes nothing.
 use mathlib.Core.Path.{_≡_, refl, sym, ap, _∙_}
-use mathlib.Core.Bool.{Bool, true, false, not, _||_, or-false}
+use mathlib.Core.Bool.{Bool, true, false, not, or-false}
 use mathlib.Core.List.{List, [], _∷_, _++_, append-nil}
 use mathlib.Core.Logic.{⊎-elim}
 use Prim.Native.Nat.{ℕ, suc, _+_, _-_, _≤_, _<_}
@@ -21,7 +21,7 @@ use Rattle.normal.specs.Normal.{replacedFrom, compose, normalPlaced, normalForm
 use Rattle.rules.specs.Labels.{labels}
 use Rattle.rules.specs.Permits.{Permits, ShortMiddles, jaChar, middle}
 use Rattle.rules.specs.Prefectures.{prefectures}
-use Rattle.rules.specs.Rules.{unfit, middleDot, isJapanese, beginsWithHyphen, endsWithHyphen, hyphenEdge, short, long, bareDot, labelRows, jp, frontRows}
+use Rattle.rules.specs.Rules.{unfit, middleDot, isJapanese, beginsWithHyphen, endsWithHyphen, hyphenEdge, short, long, hyphenPair, pretends, bareDot, labelRows, jp, frontRows}
 use Rattle.rules.specs.Editions.{todayWith}
 use Rattle.rules.specs.Hopeful.{begins, leftmost, tries, grows, hopeful}
 use Rattle.rules.proofs.ByName.{clear-front, front-clear, front-cleared}
@@ -114,7 +114,7 @@ begins-middle table m e = e
 -- ---- a text
 
 pub nothing-yet : (table text : List ℕ) → length text ≡ 0 → true ≡ hopeful (todayWith table) text
-unfolding hopeful normalForm normalPlaced replacedFrom compose labels grows tries anyOf leftmost first labelRows hyphenEdge beginsWithHyphen endsWithHyphen short long bareDot isJapanese middleDot hyphen todayWith jaChar japaneseWith japaneseBy hiragana within
+unfolding hopeful normalForm normalPlaced replacedFrom compose labels grows tries anyOf leftmost first labelRows hyphenEdge beginsWithHyphen endsWithHyphen short long hyphenPair pretends bareDot isJapanese middleDot hyphen todayWith jaChar japaneseWith japaneseBy hiragana within
 nothing-yet table [] h = refl
 nothing-yet table (x ∷ xs) h = absurd (omega arith)
 

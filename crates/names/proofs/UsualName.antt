@@ -1,5 +1,5 @@
 -- The usual name, a label that holds only what a label may and ".jp": such a character is its own replacement, no mark and no period, so
--- the text is its own normal form, its labels are the two, and only 7 to 10 can apply; that 14 never comes (proofs/Coded) is not needed.
+-- the text is its own normal form, its labels are the two, and only 7 to 10 and 17 can apply; that 14 never comes (proofs/Coded) is not needed.
 -- Assumes nothing.
 use mathlib.Core.Path.{_≡_, refl, sym, ap, _∙_}
 use mathlib.Core.Bool.{Bool, true, false, not, _&&_, _||_, or-false, or-true, and-true}
@@ -24,7 +24,7 @@ use Rattle.normal.specs.Normal.{normalForm}
 use Rattle.normal.proofs.Unchanged.{unchanged, unchanged-by, unchanged-form}
 use Rattle.rules.specs.Labels.{period, intoFirst, labels, join}
 use Rattle.rules.specs.Permits.{Permits, InStretch, ShortMiddles, jaChar, labelChar, isEmpty}
-use Rattle.rules.specs.Rules.{unfit, isJapanese, labelRows, jp, textRows, classOf, verdict, byLabels, rules, accepted, refused}
+use Rattle.rules.specs.Rules.{unfit, isJapanese, ofName, labelRows, jp, textRows, classOf, verdict, byLabels, rules, accepted, refused}
 use Rattle.rules.specs.Editions.{todayWith}
 use Rattle.rules.specs.declared.Class.the-variants.{General}
 use Rattle.rules.specs.declared.Verdict.{Verdict}
@@ -188,9 +188,9 @@ module _ (P : Permits) (stretch : InStretch P) (shorts : ShortMiddles P) (marks 
 
   -- ---- what is said of it
 
-  module _ {j : Bool} {a : Answer} (known : j ≡ anyOf beyond label) (told : a ≡ first (knownRows P j 3 label 0)) where
-    e : a ≡ first (labelRows P 3 label 0)
-    e = told ∙ rows-are P (marks .dot) label 3 0 (beyond-fit P stretch label known (w .fit))
+  module _ {j : Bool} {a : Answer} (known : j ≡ anyOf beyond label) (told : a ≡ first (knownRows P j ofName label 0)) where
+    e : a ≡ first (labelRows P ofName label 0)
+    e = told ∙ rows-are P (marks .dot) label ofName 0 (beyond-fit P stretch label known (w .fit))
 
     refused-by : (a .number ≡ 0 → ⊥) → rules P text ≡ refused (a .number) (a .place)
     refused-by h = ruled ∙ name-left P (label ∷ jp ∷ []) refl filled e h

@@ -1,5 +1,6 @@
 // Whether a text may yet become a name: the labels of its normal form, the last of them unfinished (rules, specs/Hopeful).
 use crate::ACCEPTED;
+use crate::EVERY_PAIR;
 use crate::LEAST;
 use crate::judges::front_into;
 use endings::begins_jp;
@@ -17,7 +18,7 @@ ghost use Rattle.rules.specs.Hopeful.{leftmost, grows, hopeful};
 fn is_leftmost(kanji: &[u32], label: &[u32]) -> bool
     ensures { λ r. ⌜ r ≡ leftmost (todayWith (now (kanji .entry))) (now (label .entry)) ⌝ }
 {
-    let rule = label_rule_with(kanji, label, LEAST, 0);
+    let rule = label_rule_with(kanji, label, LEAST, EVERY_PAIR, 0);
     rule.number == ACCEPTED
 }
 

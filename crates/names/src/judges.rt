@@ -2,6 +2,7 @@
 // usual name.
 use crate::ACCEPTED;
 use crate::EMPTY_LABEL;
+use crate::EVERY_PAIR;
 use crate::Judged;
 use crate::LABEL_COUNT;
 use crate::LEAST;
@@ -45,7 +46,7 @@ fn accepted(class: Class) -> Verdict
     }
 }
 
-// The rules of two labels, 6 to 11.
+// The rules of two labels, 6 to 11 and 17.
 fn two_labels(kanji: &[u32], left: &[u32], last: &[u32]) -> Verdict
     ensures { λ r. ⌜ r ≡ byLabels (todayWith (now (kanji .entry))) (now (left .entry) ∷ now (last .entry) ∷ []) ⌝ }
 {
@@ -55,7 +56,7 @@ fn two_labels(kanji: &[u32], left: &[u32], last: &[u32]) -> Verdict
     if last.len() == 0 {
         return refused(EMPTY_LABEL, 1);
     }
-    let rule = label_rule_with(kanji, left, LEAST, 0);
+    let rule = label_rule_with(kanji, left, LEAST, EVERY_PAIR, 0);
     if rule.number != ACCEPTED {
         return refused(rule.number, rule.place);
     }
@@ -65,7 +66,7 @@ fn two_labels(kanji: &[u32], left: &[u32], last: &[u32]) -> Verdict
     refused(NOT_JP, 0)
 }
 
-// The rules of three labels, 6 to 12.
+// The rules of three labels, 6 to 12 and 17.
 fn three_labels(kanji: &[u32], left: &[u32], middle: &[u32], last: &[u32]) -> Verdict
     ensures { λ r. ⌜ r ≡ byLabels (todayWith (now (kanji .entry))) (now (left .entry) ∷ now (middle .entry) ∷ now (last .entry) ∷ []) ⌝ }
 {
@@ -78,7 +79,7 @@ fn three_labels(kanji: &[u32], left: &[u32], middle: &[u32], last: &[u32]) -> Ve
     if last.len() == 0 {
         return refused(EMPTY_LABEL, 2);
     }
-    let rule = label_rule_with(kanji, left, LEAST, 0);
+    let rule = label_rule_with(kanji, left, LEAST, EVERY_PAIR, 0);
     if rule.number != ACCEPTED {
         return refused(rule.number, rule.place);
     }
@@ -92,7 +93,7 @@ fn three_labels(kanji: &[u32], left: &[u32], middle: &[u32], last: &[u32]) -> Ve
     refused(NOT_PREFECTURE, 0)
 }
 
-// The rules of the labels of a form, 5 to 12.
+// The rules of the labels of a form, 5 to 12 and 17.
 fn name_rules(kanji: &[u32], form: &[u32]) -> Verdict
     ensures { λ r. ⌜ r ≡ byLabels (todayWith (now (kanji .entry))) (labels (now (form .entry))) ⌝ }
 {
@@ -158,7 +159,7 @@ pub(crate) struct Ruled {
     pub length: usize,
 }
 
-// The rules on a text, 2 to 12; its normal form is left at the start of the lent buffer.
+// The rules on a text, 2 to 12 and 17; its normal form is left at the start of the lent buffer.
 pub(crate) fn judge_into(kanji: &[u32], text: &[u32], form: &mut [u32]) -> Ruled
     requires { ⌜ 256 ≤ length (now form) ⌝ }
     ensures { λ r. ⌜ Judges (todayWith (now (kanji .entry))) (now (text .entry)) (now (form .entry)) (now (form .exit)) r ⌝ }

@@ -16,7 +16,7 @@ pub use hopes::may_become_with;
 pub use judges::judge;
 pub use judges::judge_with;
 
-// The numbers that a call on a name answers (document 01), besides 2 and 3, which are the normal form's, and 7 to 10, a label's.
+// The numbers that a call on a name answers (document 01), besides 2 and 3, which are the normal form's, and 7 to 10 and 17, a label's.
 pub const ACCEPTED: u8 = 0;
 
 pub const NO_ROOM: u8 = 1;
@@ -33,8 +33,11 @@ pub const NOT_PREFECTURE: u8 = 12;
 
 pub const OVER_63: u8 = 14;
 
-// An ASCII label that is leftmost has so many characters at least.
+// What a name asks of its leftmost label: an ASCII one has so many characters at least, and hyphens in the third and fourth places are
+// refused in an ASCII one, not in every one.
 pub(crate) const LEAST: usize = 3;
+
+pub(crate) const EVERY_PAIR: bool = false;
 
 // What the judge answers.
 pub struct Judged {

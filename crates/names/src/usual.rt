@@ -1,6 +1,7 @@
 // The usual name: a label that holds only what a label may, and ".jp". It is its own normal form, and what is put for it stays.
 use crate::ACCEPTED;
 use crate::AsciiForm;
+use crate::EVERY_PAIR;
 use crate::LEAST;
 use crate::OVER_63;
 use crate::ascii::any_beyond;
@@ -56,14 +57,14 @@ pub(crate) fn all_in_label(kanji: &[u32], label: &[u32]) -> bool
     true
 }
 
-// The ASCII form of such a label and ".jp": of the rules only 7 to 10 can apply. Row 14 is answered as the contract lists it, though it
+// The ASCII form of such a label and ".jp": of the rules only 7 to 10 and 17 can apply. Row 14 is answered as the contract lists it, though it
 // never comes (proofs/Coded).
 pub(crate) fn usual_name(kanji: &[u32], label: &[u32], out: &mut [u8]) -> AsciiForm
     requires { ⌜ UsualLabel (todayWith (now kanji)) (now label) × (192 ≤ length (now out)) ⌝ }
     ensures { λ r. ⌜ AsciiForms (todayWith (now (kanji .entry))) (now (label .entry) ++ dotJp) (now (out .entry)) (now (out .exit)) r ⌝ }
 {
     let japanese = any_beyond(label);
-    let rule = known_rule_with(kanji, label, japanese, LEAST, 0);
+    let rule = known_rule_with(kanji, label, japanese, LEAST, EVERY_PAIR, 0);
     if rule.number != ACCEPTED {
         return refused_form(rule.number, rule.place);
     }

@@ -1,11 +1,15 @@
--- Closed examples of document 01, 'Normal form' and 'Errors the rules invite', and of document 02, K2, by computation.
+-- Closed examples of document 01, 'Normal form', 'Numbers a call may answer' and 'Errors the rules invite', and of
+-- document 02, K2, by computation.
 use mathlib.Core.Path.{_≡_, refl}
 use mathlib.Core.List.{List, [], _∷_, _++_, map}
 use Prim.Native.Nat.{ℕ, zero, suc}
-use lib.ListN.{length}
+use lib.ListN.{length, replicate}
 use Rattle.lists.specs.Tests.{within, anyOf, elem}
+use Rattle.lists.specs.Rows.{first}
+use Rattle.lists.specs.declared.Answer.{Answer}
 use Rattle.characters.specs.Replace.{ranges, rangeIn, halfKana, isHalf, replaceIn, replace}
 use Rattle.characters.specs.Compose.{voiced, repeats, halfVoiced, eitherKana, composed}
+use Rattle.normal.specs.Calls.{rows, answer}
 use Rattle.normal.specs.Normal.{replacedFrom, compose, normalPlaced, normalForm, places}
 
 -- a text, its normal form, and where each character of it began
@@ -59,3 +63,11 @@ pub thirty-make-fifteen : length (normalForm (often 15 (0xFF76 ∷ 0xFF9E ∷ []
 unfolding normalForm normalPlaced compose replacedFrom replace replaceIn isHalf halfKana rangeIn ranges within
     composed eitherKana voiced repeats halfVoiced elem anyOf
 thirty-make-fifteen = refl
+
+-- a buffer that is too short is refused first: of nothing, and of 257 blanks; given room they are refused as they are
+abbrev rooms : List Answer
+rooms = answer [] 255 ∷ answer [] 256 ∷ answer (replicate 257 0x20) 255 ∷ answer (replicate 257 0x20) 256 ∷ []
+
+pub room-first : map (λ (a : Answer). a .number) rooms ≡ 1 ∷ 2 ∷ 1 ∷ 3 ∷ []
+unfolding answer rows first
+room-first = refl

@@ -128,7 +128,7 @@ fn call(kanji: &[u32], call: u8, numbers: &[u32], room: usize, out: &mut [u8], o
         b'M' => streams::hope(kanji, numbers, out, o),
         b'N' => normal_form(numbers, room, out, o),
         b'P' => slices::places(numbers, room, out, o),
-        b'Q' => label::one_label(kanji, numbers, out, o),
+        b'Q' => label::one_label(kanji, numbers, room, out, o),
         b'T' => slices::two_lists(numbers, room, out, o),
         _ => printed::put_byte(out, o, b'?'),
     }

@@ -6,18 +6,19 @@ fn of_halves(upper: u32, lower: u32) -> usize {
     upper as usize * 0x100000000 + lower as usize
 }
 
-// What is said of a label: the first of 7 to 10 that applies, where one ends, its first unfit character, is it
+// What is said of a label: the first of 7 to 10 and 17 that applies, where one ends, its first unfit character, is it
 // Japanese?
 fn put_label(
     kanji: &[u32],
     label: &[u32],
     from: usize,
     least: usize,
+    every: bool,
     at: usize,
     out: &mut [u8],
     o: usize,
 ) -> usize {
-    let r = labels::label_rule_with(kanji, label, least, at);
+    let r = labels::label_rule_with(kanji, label, least, every, at);
     let a = printed::put_number(out, o, r.number, r.place);
     let b = printed::put_length(out, a, labels::label_end(label, from));
     let c = printed::put_length(out, b, labels::first_unfit_with(kanji, label));
@@ -25,18 +26,19 @@ fn put_label(
     printed::put_flag(out, d, labels::holds_japanese_with(kanji, label))
 }
 
-// A space, and the first of 7 to 10 that applies to the label if it is taken for Japanese, or for ASCII.
+// A space, and the first of 7 to 10 and 17 that applies to the label if it is taken for Japanese, or for ASCII.
 fn put_taken(
     kanji: &[u32],
     label: &[u32],
     japanese: bool,
     least: usize,
+    every: bool,
     at: usize,
     out: &mut [u8],
     from: usize,
 ) -> usize {
     let o = printed::put_byte(out, from, b' ');
-    let r = labels::known_rule_with(kanji, label, japanese, least, at);
+    let r = labels::known_rule_with(kanji, label, japanese, least, every, at);
     printed::put_number(out, o, r.number, r.place)
 }
 
@@ -66,8 +68,15 @@ fn put_characters(kanji: &[u32], label: &[u32], out: &mut [u8], from: usize) -> 
     o
 }
 
-// Q: one label, after six numbers: the halves of where to begin, of the least length and of the label's place.
-pub(crate) fn one_label(kanji: &[u32], numbers: &[u32], out: &mut [u8], o: usize) -> usize {
+// Q: one label, after six numbers: the halves of where to begin, of the least length and of the label's place. With room 0 the pair is
+// refused in an ASCII label alone, with any other room in every label.
+pub(crate) fn one_label(
+    kanji: &[u32],
+    numbers: &[u32],
+    room: usize,
+    out: &mut [u8],
+    o: usize,
+) -> usize {
     let n = numbers.len();
     if n < 6 {
         return printed::put_byte(out, o, b'?');
@@ -75,10 +84,11 @@ pub(crate) fn one_label(kanji: &[u32], numbers: &[u32], out: &mut [u8], o: usize
     let from = of_halves(numbers[0], numbers[1]);
     let least = of_halves(numbers[2], numbers[3]);
     let at = of_halves(numbers[4], numbers[5]);
+    let every = room != 0;
     let label = &numbers[6..n];
-    let mut p = put_label(kanji, label, from, least, at, out, o);
-    p = put_taken(kanji, label, true, least, at, out, p);
-    p = put_taken(kanji, label, false, least, at, out, p);
+    let mut p = put_label(kanji, label, from, least, every, at, out, o);
+    p = put_taken(kanji, label, true, least, every, at, out, p);
+    p = put_taken(kanji, label, false, least, every, at, out, p);
     p = put_endings(label, out, p);
     put_characters(kanji, label, out, p)
 }

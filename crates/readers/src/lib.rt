@@ -1,6 +1,6 @@
 // The second reader of labels, as document 004 is written: one rule stands after a letter, digit or Japanese character, the
 // other after a hyphen, each handing the rest of the label to the other. Each call takes any label and says yes or no of it. Its meaning is
-// defined in `rules` (specs/Reader), and that it agrees with the rules is shown there (proofs/ReaderAgrees).
+// defined in `rules` (specs/Reader), and that it agrees with the rules but for 17 is shown there (proofs/ReaderAgrees).
 use labels::in_label_with;
 use labels::is_ordinary_with;
 use rules::Seen;

@@ -1,5 +1,5 @@
--- Each beginning of a derived name may grow: it ends in the first label, or past its period in one of those that follow. So does a beginning
--- whose last character a mark has joined since: with the base put back the name still derives.
+-- Each beginning of a name that is admitted may grow: it ends in the first label, or past its period in one of those that follow. So does a
+-- beginning whose last character a mark has joined since: with the base put back the name is still admitted.
 -- Assumes nothing.
 use mathlib.Core.Path.{_≡_, refl, sym, ap, _∙_}
 use mathlib.Core.Bool.{Bool, true, false, not, _||_}
@@ -15,14 +15,16 @@ use Rattle.characters.specs.Compose.{voiced, repeats, halfVoiced, composed}
 use Rattle.characters.proofs.Pairs.{of-base, composed-kana}
 use Rattle.rules.specs.Labels.{period, labels}
 use Rattle.rules.specs.Permits.{Permits, jaChar, Laws, labelChar, middle}
-use Rattle.rules.specs.Rules.{middleDot, ordinary, jp, Sound}
+use Rattle.rules.specs.Rules.{middleDot, ordinary, ofName, pretends, jp, Sound}
 use Rattle.rules.specs.Grammar.{Derives, general, prefecture, listed}
+use Rattle.rules.specs.Pretends.{PRETENDS, Admitted}
 use Rattle.rules.specs.Hopeful.{begins, leftmost, grows, settled, HopeLaws}
 use Rattle.rules.specs.declared.Class.{Class}
 use Rattle.rules.proofs.Cuts.{labels-cut, labels-one}
-use Rattle.rules.proofs.Sound.{ascii-range, label-sound, sound-label}
+use Rattle.rules.proofs.Sound.{ascii-range, label-sound}
 use Rattle.rules.proofs.Derived.{of-middle, no-period}
-use Rattle.rules.proofs.Growing.{endJp, dotJp, is-begins, meets-leftmost, one-more, exchanged}
+use Rattle.rules.proofs.Pretends.{japanese-honest, honest-label, general-admitted, prefecture-admitted}
+use Rattle.rules.proofs.Growing.{endJp, dotJp, is-begins, meets-leftmost, japanese-at, one-more, exchanged}
 
 -- ---- lists
 
@@ -70,7 +72,7 @@ module _ (P : Permits) (H : HopeLaws P) where
   abbrev L : Laws P
   L = H .laws
 
-  -- ---- a derived name in which a mark joined a character still derives without the mark
+  -- ---- a derived name in which a mark joined a character is admitted without the mark
 
   no-kana : (m : List ℕ) → middle P m ≡ true → anyOf kana (0x2E ∷ (m ++ dotJp)) ≡ false
   unfolding anyOf within
@@ -92,25 +94,28 @@ module _ (P : Permits) (H : HopeLaws P) where
   base-ordinary b m n = rw (H .bases b m n) (base-no-exception b m n)
 
   module _ (f : List ℕ) (b m : ℕ) (n : composed b m ≡ 0 → ⊥) where
-    parted : (l s : List ℕ) → l ≡ f ++ composed b m ∷ s → Sound P 3 l → Sound P 3 (f ++ b ∷ s)
+    parted : (l s : List ℕ) → l ≡ f ++ composed b m ∷ s → Sound P 3 l → Sound P 3 (f ++ b ∷ s) × (pretends P ofName (f ++ b ∷ s) ≡ false)
     unfolding allOf
     parted l s e S =
         let T : Sound P 3 (f ++ composed b m ∷ s) = rw e at S in
         let w = both (allOf (labelChar P) f) _ (sym (all-append (labelChar P) f (composed b m ∷ s)) ∙ T .chars) .1 in
-        exchanged P L f b (composed b m) s (H .bases b m n) (base-ordinary b m n)
-        (composed-japanese b m n (both (labelChar P (composed b m)) _ w .0)) T
+        let j = composed-japanese b m n (both (labelChar P (composed b m)) _ w .0) in (
+          exchanged P L f b (composed b m) s (H .bases b m n) (base-ordinary b m n) j T,
+          japanese-honest P (f ++ b ∷ s) (japanese-at P f b s (H .bases b m n)),
+        )
 
-    pub uncomposed : {k : Class} {t : List ℕ} (r : List ℕ) → Derives P k t → f ++ composed b m ∷ r ≡ t → Derives P k (f ++ b ∷ r)
+    pub uncomposed : {k : Class} {t : List ℕ} (r : List ℕ) → Derives P k t → f ++ composed b m ∷ r ≡ t → Admitted P k (f ++ b ∷ r)
     uncomposed r (general {l = l} d) e =
         let q = lies-before kana f l (composed b m) r dotJp (composed-kana b m n) no-kana-jp e in
-        rw (q .2, ← append-assoc f (b ∷ q .0) dotJp) (general (sound-label P L (parted l (q .0) (q .1) (label-sound P L d))))
+        let k = parted l (q .0) (q .1) (label-sound P L d) in
+        rw (q .2, ← append-assoc f (b ∷ q .0) dotJp) (general-admitted P L (k .0) (k .1))
     uncomposed r (prefecture {l = l} {m = z} d (listed p)) e =
         let w : List ℕ = 0x2E ∷ (z ++ dotJp) in
         let q = lies-before kana f l (composed b m) r w (composed-kana b m n) (no-kana z p) e in
-        rw (q .2, ← append-assoc f (b ∷ q .0) w)
-        (prefecture (sound-label P L (parted l (q .0) (q .1) (label-sound P L d))) (listed p))
+        let k = parted l (q .0) (q .1) (label-sound P L d) in
+        rw (q .2, ← append-assoc f (b ∷ q .0) w) (prefecture-admitted P L (k .0) (k .1) z p)
 
-  -- ---- each beginning of a derived name may grow
+  -- ---- each beginning of a name that is admitted may grow
 
   abbrev Grows : List ℕ → Type 0
   Grows f = grows P (labels f) ≡ true
@@ -124,16 +129,16 @@ module _ (P : Permits) (H : HopeLaws P) where
   unfolding jp anyOf period
   jp-begun g r e = (rw (← e) (is-begins g r), begun-one g r endJp (sym e) refl)
 
-  module _ {l : List ℕ} (S : Sound P 3 l) where
+  module _ {l : List ℕ} (S : Sound P 3 l) (h : pretends P ofName l ≡ false) where
     in-first : (f s : List ℕ) → l ≡ f ++ s → Grows f
     unfolding grows
-    in-first f s e = rw (begun-one f s l e (no-period P L l (S .chars))) (one-more P L (H .tried) f s (rw e at S))
+    in-first f s e = rw (begun-one f s l e (no-period P L l (S .chars))) (one-more P L (H .tried) f s (rw e at S) (rw e at h))
 
     past-first : (g : List ℕ) {ls : List (List ℕ)} → labels g ≡ ls → grows P (l ∷ ls) ≡ true → Grows (l ++ 0x2E ∷ g)
     past-first g e h = rw (labels-cut l g (no-period P L l (S .chars)), e) h
 
     left-is : leftmost P l ≡ true
-    left-is = meets-leftmost P l (S .meets)
+    left-is = meets-leftmost P l (S .meets) h
 
     in-jp : (g r : List ℕ) → g ++ r ≡ endJp → Grows (l ++ 0x2E ∷ g)
     unfolding grows
@@ -156,13 +161,15 @@ module _ (P : Permits) (H : HopeLaws P) where
           let k = jp-begun h r e in
           past-first (m ++ 0x2E ∷ h) (labels-cut m h middle-no-period ∙ ap (λ (x : List (List ℕ)). m ∷ x) (k .1)) (rw (left-is, p, k .0))
 
-  pub derived-grows : {k : Class} {t : List ℕ} (f r : List ℕ) → Derives P k t → f ++ r ≡ t → Grows f
-  derived-grows f r (general {l = l} d) e =
+  pub admitted-grows : {k : Class} {t : List ℕ} (f r : List ℕ) → Derives P k t → (PRETENDS t → ⊥) → f ++ r ≡ t → Grows f
+  admitted-grows f r (general {l = l} d) n e =
       let S = label-sound P L d in
-      ⊎-elim (λ p. in-first S f (p .0) (p .1)) (λ p. rw (p .1) (in-jp S (p .0) r (p .2))) (reach f l 0x2E endJp r e)
-  derived-grows f r (prefecture {l = l} {m = m} d (listed q)) e =
+      let h = honest-label P L d endJp n in
+      ⊎-elim (λ p. in-first S h f (p .0) (p .1)) (λ p. rw (p .1) (in-jp S h (p .0) r (p .2))) (reach f l 0x2E endJp r e)
+  admitted-grows f r (prefecture {l = l} {m = m} d (listed q)) n e =
       let S = label-sound P L d in
-      ⊎-elim (λ p. in-first S f (p .0) (p .1))
-      (λ p. rw (p .1) (⊎-elim (λ u. in-middle S m q (p .0) (u .0) (u .1)) (λ u. rw (u .1) (in-last S m q (u .0) r (u .2)))
+      let h = honest-label P L d (m ++ dotJp) n in
+      ⊎-elim (λ p. in-first S h f (p .0) (p .1))
+      (λ p. rw (p .1) (⊎-elim (λ u. in-middle S h m q (p .0) (u .0) (u .1)) (λ u. rw (u .1) (in-last S h m q (u .0) r (u .2)))
       (reach (p .0) m 0x2E endJp r (p .2))))
       (reach f l 0x2E (m ++ dotJp) r e)

@@ -1,36 +1,57 @@
--- The three tables of rows by name: each has a record with a field for each row, and a lemma to and from 'no row applies', the only ones
--- that take it apart into rows. Every row refuses, so number 0 says that none applies.
+-- The three tables of rows by name: each has a record with a field for each row but 17, and a lemma to and from 'no other row applies'; with
+-- 17 it is this and that the label does not pretend. No other lemmas take 'no row applies' apart into rows. Every row refuses, so number 0
+-- says that none applies.
 -- Assumes nothing.
-use mathlib.Core.Path.{_≡_, refl, ap}
+use mathlib.Core.Path.{_≡_, refl, ap, _∙_}
 use mathlib.Core.Bool.{true, false, not, _&&_, _||_}
-use mathlib.Core.List.{List, [], _∷_}
+use mathlib.Core.List.{List, [], _++_}
 use Prim.Native.Nat.{ℕ, _-_, _≤_}
 use native.Mathlib.Omega.{arith}
 use lib.Dec.{eqb}
 use lib.ListN.{length, getD}
 use borrow.Author.Tests.{eqb-false, ne-eqb, ltb-false, le-ltb, not-false}
 use Rattle.lists.specs.Tests.{allOf, anyOf, same}
-use Rattle.lists.specs.Rows.{first, Clear}
-use Rattle.lists.proofs.Tables.{refusing, accepted-clear, split-clear, join-clear}
+use Rattle.lists.specs.Rows.{Row, first, without, Clear}
+use Rattle.lists.proofs.Tables.{refusing, accepted-clear, split-clear, join-clear, only, part-clear, whole-clear, without-both, first-only, hit}
 use Rattle.normal.specs.Normal.{normalForm}
 use Rattle.rules.specs.Labels.{labels}
 use Rattle.rules.specs.Permits.{Permits, middle, isEmpty}
-use Rattle.rules.specs.Rules.{unfit, labelRows, Meets, jp, nameRows, frontRows, textRows}
+use Rattle.rules.specs.Rules.{unfit, Asks, ofName, pretends, labelRows, Meets, jp, lastRows, nameRows, frontRows, textRows}
 
--- ---- 7 to 10, of a label
+-- one table after another, without 17
+split-but : (rs ss : List Row) → Clear (without 17 (rs ++ ss)) → Clear (without 17 rs) × Clear (without 17 ss)
+split-but rs ss c = split-clear (without 17 rs) (without 17 ss) (rw (without-both 17 rs ss) at c)
 
-module _ (P : Permits) (least : ℕ) (l : List ℕ) (at : ℕ) where
-  pub clear-meets : Clear (labelRows P least l at) → Meets P least l
-  unfolding labelRows
+join-but : (rs ss : List Row) → Clear (without 17 rs) → Clear (without 17 ss) → Clear (without 17 (rs ++ ss))
+join-but rs ss c d = rw (without-both 17 rs ss) (join-clear (without 17 rs) (without 17 ss) c d)
+
+-- ---- 7 to 10 and 17, of a label
+
+module _ (P : Permits) (A : Asks) (l : List ℕ) (at : ℕ) where
+  pub clear-meets : Clear (without 17 (labelRows P A l at)) → Meets P (A .least) l
+  unfolding labelRows without
   clear-meets c = record { edge = c .0; enough = c .1 .0; few = c .1 .1 .0; dotted = c .1 .1 .1 .0 }
 
-  pub meets-clear : Meets P least l → Clear (labelRows P least l at)
-  unfolding labelRows
+  pub meets-clear : Meets P (A .least) l → Clear (without 17 (labelRows P A l at))
+  unfolding labelRows without
   meets-clear m = (m .edge, (m .enough, (m .few, (m .dotted, tt))))
 
-  pub label-cleared : first (labelRows P least l at) .number ≡ 0 → Clear (labelRows P least l at)
+  pub clear-label : Clear (labelRows P A l at) → Meets P (A .least) l × (pretends P A l ≡ false)
+  unfolding labelRows only
+  clear-label c = let k = part-clear 17 (labelRows P A l at) c in (clear-meets (k .0), k .1 .0)
+
+  pub label-clear : Meets P (A .least) l → pretends P A l ≡ false → Clear (labelRows P A l at)
+  unfolding labelRows only
+  label-clear m h = whole-clear 17 (labelRows P A l at) (meets-clear m) (h, tt)
+
+  -- 17 is given where none of 7 to 10 applies
+  pub label-17 : Meets P (A .least) l → pretends P A l ≡ true → first (labelRows P A l at) ≡ record { number = 17; place = at }
+  unfolding labelRows only
+  label-17 m e = first-only 17 (labelRows P A l at) (meets-clear m) ∙ hit 17 _ at _ e
+
+  pub label-cleared : first (labelRows P A l at) .number ≡ 0 → Clear (labelRows P A l at)
   unfolding labelRows refusing allOf
-  label-cleared e = accepted-clear (labelRows P least l at) refl e
+  label-cleared e = accepted-clear (labelRows P A l at) refl e
 
 -- ---- 2 to 4, of a text
 
@@ -48,25 +69,31 @@ pub record Passed (P : Permits) (ls : List (List ℕ)) : Type 0 where
   pub last : same (getD ls (length ls - 1) []) jp ≡ true
   pub mid : eqb (length ls) 3 && not (middle P (getD ls 1 [])) ≡ false
 
+-- 17: the leftmost of these labels does not pretend
+abbrev pub Honest : Permits → List (List ℕ) → Type 0
+Honest P ls = pretends P ofName (getD ls 0 []) ≡ false
+
 module _ (P : Permits) (ls : List (List ℕ)) where
-  pub clear-passed : Clear (nameRows P ls) → Passed P ls
-  unfolding nameRows
+  clear-passed : Clear (without 17 (nameRows P ls)) → Passed P ls
+  unfolding nameRows without
   clear-passed c =
       let l = getD ls 0 [] in
-      let k = split-clear (labelRows P 3 l 0) _ (c .1 .1) in
+      let k = split-but (labelRows P ofName l 0) (lastRows P ls) (c .1 .1) in
       record {
         count = not-false _ (c .0);
         filled = c .1 .0;
-        left = clear-meets P 3 l 0 (k .0);
+        left = clear-meets P ofName l 0 (k .0);
         last = not-false _ (k .1 .0);
         mid = k .1 .1 .0;
       }
 
-  pub passed-clear : Passed P ls → Clear (nameRows P ls)
-  unfolding nameRows
+  passed-clear : Passed P ls → Clear (without 17 (nameRows P ls))
+  unfolding nameRows without
   passed-clear N =
-      let l = getD ls 0 [] in
-      (ap not (N .count), (N .filled, join-clear (labelRows P 3 l 0) _ (meets-clear P 3 l 0 (N .left)) (ap not (N .last), (N .mid, tt))))
+      let l = getD ls 0 [] in (
+        ap not (N .count),
+        (N .filled, join-but (labelRows P ofName l 0) (lastRows P ls) (meets-clear P ofName l 0 (N .left)) (ap not (N .last), (N .mid, tt))),
+      )
 
 module _ (P : Permits) (text : List ℕ) where
   pub clear-front : Clear (frontRows P text) → FrontPassed P text
@@ -83,16 +110,41 @@ module _ (P : Permits) (text : List ℕ) where
   unfolding frontRows refusing allOf
   front-cleared e = accepted-clear (frontRows P text) refl e
 
-  -- ---- 2 to 12, of a text
+  -- 17 is not among them
+  front-but : without 17 (frontRows P text) ≡ frontRows P text
+  unfolding frontRows without
+  front-but = refl
 
-  pub clear-text : Clear (textRows P text) → FrontPassed P text × Passed P (labels (normalForm text))
-  unfolding textRows
-  clear-text c = let k = split-clear (frontRows P text) _ c in (clear-front (k .0), clear-passed P (labels (normalForm text)) (k .1))
+  -- ---- 2 to 12 and 17, of a text
 
-  pub text-clear : FrontPassed P text → Passed P (labels (normalForm text)) → Clear (textRows P text)
+  abbrev ls : List (List ℕ)
+  ls = labels (normalForm text)
+
+  pub clear-but : Clear (without 17 (textRows P text)) → FrontPassed P text × Passed P ls
   unfolding textRows
-  text-clear F N = join-clear (frontRows P text) _ (front-clear F) (passed-clear P (labels (normalForm text)) N)
+  clear-but c =
+      let k = split-but (frontRows P text) (nameRows P ls) c in
+      (clear-front (rw front-but at (k .0)), clear-passed P ls (k .1))
+
+  pub but-clear : FrontPassed P text → Passed P ls → Clear (without 17 (textRows P text))
+  unfolding textRows
+  but-clear F N = join-but (frontRows P text) (nameRows P ls) (rw front-but (front-clear F)) (passed-clear P ls N)
+
+  pub clear-text : Clear (textRows P text) → FrontPassed P text × Passed P ls × Honest P ls
+  unfolding textRows frontRows nameRows labelRows only
+  clear-text c =
+      let k = part-clear 17 (textRows P text) c in
+      let b = clear-but (k .0) in
+      (b .0, b .1, k .1 .0)
+
+  pub text-clear : FrontPassed P text → Passed P ls → Honest P ls → Clear (textRows P text)
+  unfolding textRows frontRows nameRows labelRows only
+  text-clear F N h = whole-clear 17 (textRows P text) (but-clear F N) (h, tt)
 
   pub text-cleared : first (textRows P text) .number ≡ 0 → Clear (textRows P text)
   unfolding textRows frontRows nameRows labelRows refusing allOf
   text-cleared e = accepted-clear (textRows P text) refl e
+
+  pub but-cleared : first (without 17 (textRows P text)) .number ≡ 0 → Clear (without 17 (textRows P text))
+  unfolding textRows frontRows nameRows labelRows without refusing allOf
+  but-cleared e = accepted-clear (without 17 (textRows P text)) refl e

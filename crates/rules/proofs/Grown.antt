@@ -1,5 +1,5 @@
--- What may grow is carried on to a derived name by characters that nothing replaces and no mark: what was tried, the rest of a prefecture
--- label, a period, the rest of jp.
+-- What may grow is carried on to a name that is admitted by characters that nothing replaces and no mark: what was tried, the rest of a
+-- prefecture label, a period, the rest of jp.
 -- Assumes nothing.
 use mathlib.Core.Path.{_≡_, refl, sym, _∙_}
 use mathlib.Core.Bool.{Bool, true, false, _||_, false≢true}
@@ -14,13 +14,14 @@ use Rattle.characters.proofs.Classes.{stays, ascii-stays}
 use Rattle.normal.proofs.Unchanged.{unchanged, unchanged-by}
 use Rattle.rules.specs.Labels.{join}
 use Rattle.rules.specs.Permits.{Permits, jaChar, Laws, labelChar, middle}
-use Rattle.rules.specs.Rules.{jp, Sound}
-use Rattle.rules.specs.Grammar.{Derives, general, prefecture, listed}
+use Rattle.rules.specs.Rules.{ofName, pretends, jp, Sound}
+use Rattle.rules.specs.Pretends.{Admitted}
 use Rattle.rules.specs.Hopeful.{begins, leftmost, filler, tries, grows, settled, HopeLaws}
 use Rattle.rules.specs.declared.Class.{Class}
 use Rattle.rules.specs.declared.Class.the-variants.{General, Prefecture}
-use Rattle.rules.proofs.Sound.{ascii-range, sound-label}
+use Rattle.rules.proofs.Sound.{ascii-range}
 use Rattle.rules.proofs.Derived.{of-middle}
+use Rattle.rules.proofs.Pretends.{general-admitted, prefecture-admitted}
 use Rattle.rules.proofs.Growing.{endJp, dotJp, begins-is, one-of, leftmost-sound}
 
 -- ---- what stays as it is
@@ -49,25 +50,25 @@ module _ (P : Permits) (H : HopeLaws P) where
   abbrev L : Laws P
   L = H .laws
 
-  -- a text that more such characters carry on to a derived name
+  -- a text that more such characters carry on to a name
   pub record Grown (t : List ℕ) : Type 0 where
     pub more : List ℕ
     pub kind : Class
     pub stays : allOf unchanged more ≡ true
-    pub derives : Derives P kind (t ++ more)
+    pub admitted : Admitted P kind (t ++ more)
 
   module _ (l : List ℕ) (w : allOf (labelChar P) l ≡ true) where
     -- ---- one label
 
     first-on : (r : List ℕ) → allOf (labelChar P) r ≡ true → allOf unchanged r ≡ true → leftmost P (l ++ r) ≡ true → Grown l
-    first-on r v u e = record {
-      more = r ++ dotJp;
-      kind = General;
-      stays = unchanged-jp r u;
-      derives =
-          rw (← append-assoc l r dotJp)
-          (general (sound-label P L (leftmost-sound P (l ++ r) (all-append (labelChar P) l r ∙ rw (w, v)) e)));
-    }
+    first-on r v u e =
+        let S = leftmost-sound P (l ++ r) (all-append (labelChar P) l r ∙ rw (w, v)) e in
+        record {
+          more = r ++ dotJp;
+          kind = General;
+          stays = unchanged-jp r u;
+          admitted = rw (← append-assoc l r dotJp) (general-admitted P L (S .0) (S .1));
+        }
 
     first-grown : anyOf (λ (r : List ℕ). leftmost P (l ++ r)) tries ≡ true → Grown l
     unfolding tries anyOf allOf labelChar asciiSet alnum within unchanged replace replaceIn isHalf ranges rangeIn
@@ -82,9 +83,9 @@ module _ (P : Permits) (H : HopeLaws P) where
 
     -- ---- two labels, and three
 
-    module _ (S : leftmost P l ≡ true) where
-      left : Sound P 3 l
-      left = leftmost-sound P l w S
+    module _ (e : leftmost P l ≡ true) where
+      left : Sound P 3 l × (pretends P ofName l ≡ false)
+      left = leftmost-sound P l w e
 
       jp-on : (m : List ℕ) → begins m jp ≡ true → Grown (l ++ 0x2E ∷ m)
       unfolding jp
@@ -94,7 +95,7 @@ module _ (P : Permits) (H : HopeLaws P) where
             more = k .0;
             kind = General;
             stays = unchanged-rest jp m (k .0) (k .1) jp-unchanged;
-            derives = rw (append-assoc l (0x2E ∷ m) (k .0), ← k .1) (general (sound-label P L left));
+            admitted = rw (append-assoc l (0x2E ∷ m) (k .0), ← k .1) (general-admitted P L (left .0) (left .1));
           }
 
       middle-on : (m : List ℕ) → anyOf (begins m) (P .middles) ≡ true → Grown (l ++ 0x2E ∷ m)
@@ -107,8 +108,9 @@ module _ (P : Permits) (H : HopeLaws P) where
             more = k .0 ++ dotJp;
             kind = Prefecture;
             stays = unchanged-jp (k .0) (unchanged-rest (c .0) m (k .0) (k .1) u);
-            derives =
-                rw (append-assoc l (0x2E ∷ m) (k .0 ++ dotJp), ← append-assoc m (k .0) dotJp, ← k .1) (prefecture (sound-label P L left) (listed p));
+            admitted =
+                rw (append-assoc l (0x2E ∷ m) (k .0 ++ dotJp), ← append-assoc m (k .0) dotJp, ← k .1)
+                (prefecture-admitted P L (left .0) (left .1) (c .0) p);
           }
 
       last-on : (m z : List ℕ) → middle P m ≡ true → begins z jp ≡ true → Grown (l ++ 0x2E ∷ (m ++ 0x2E ∷ z))
@@ -119,9 +121,9 @@ module _ (P : Permits) (H : HopeLaws P) where
             more = k .0;
             kind = Prefecture;
             stays = unchanged-rest jp z (k .0) (k .1) jp-unchanged;
-            derives =
+            admitted =
                 rw (append-assoc l (0x2E ∷ (m ++ 0x2E ∷ z)) (k .0), append-assoc m (0x2E ∷ z) (k .0), ← k .1)
-                (prefecture (sound-label P L left) (listed p));
+                (prefecture-admitted P L (left .0) (left .1) m p);
           }
 
   pub grown : (ls : List (List ℕ)) → allOf (allOf (labelChar P)) ls ≡ true → grows P ls ≡ true → Grown (join ls)

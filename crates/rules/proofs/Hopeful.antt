@@ -1,5 +1,5 @@
--- A text is hopeful exactly where some continuation of it is accepted: what is accepted derives, and of a derived name each beginning
--- has the labels that may grow (proofs/Begun); and what may grow is carried on to a derived name (proofs/Grown).
+-- A text is hopeful exactly where some continuation of it is accepted: what is accepted is admitted, and each beginning of such a name has
+-- labels that may grow (proofs/Begun); and what may grow is carried on to a name that is admitted (proofs/Grown).
 -- Assumes nothing.
 use mathlib.Core.Path.{_≡_, refl, sym, ap, _∙_}
 use mathlib.Core.Bool.{true, false, not}
@@ -15,14 +15,14 @@ use Rattle.normal.proofs.Continued.{Continues, apart, joined, continued, contin
 use Rattle.rules.specs.Labels.{labels}
 use Rattle.rules.specs.Permits.{Permits}
 use Rattle.rules.specs.Rules.{unfit, rules}
-use Rattle.rules.specs.Grammar.{Derives}
+use Rattle.rules.specs.Pretends.{Admitted}
 use Rattle.rules.specs.Hopeful.{MayBecome, grows, hopeful, HopeLaws}
 use Rattle.rules.specs.declared.Class.{Class}
 use Rattle.rules.specs.declared.Verdict.{Verdict}
 use Rattle.rules.proofs.Cuts.{join-labels, labels-fit}
 use Rattle.rules.proofs.Derived.{named}
 use Rattle.rules.proofs.Exactly.{class, number-accepted, accepted-derives}
-use Rattle.rules.proofs.Begun.{uncomposed, derived-grows}
+use Rattle.rules.proofs.Begun.{uncomposed, admitted-grows}
 use Rattle.rules.proofs.Grown.{Grown, grown}
 
 module _ (P : Permits) (H : HopeLaws P) where
@@ -35,25 +35,25 @@ module _ (P : Permits) (H : HopeLaws P) where
         let form = normalForm text in
         let h = both (not (anyOf (unfit P) form)) (grows P (labels form)) e in
         let g : Grown P H form = rw (join-labels form) at (grown P H (labels form) (labels-fit P form (not-true (anyOf (unfit P) form) (h .0))) (h .1)) in
-        let d : Derives P (g .kind) (normalForm (text ++ g .more)) = rw (continued-unchanged text (g .more) (g .stays)) (g .derives) in
+        let d : Admitted P (g .kind) (normalForm (text ++ g .more)) = rw (continued-unchanged text (g .more) (g .stays)) (g .admitted) in
         (g .more, ap (λ (v : Verdict). v .number) (accepted-derives P (H .laws) (text ++ g .more) (g .kind) .1 d))
 
-    derived-hopeful : {k : Class} (r : List ℕ) → Derives P k (normalForm text ++ r) → hopeful P text ≡ true
+    admitted-hopeful : {k : Class} (r : List ℕ) → Admitted P k (normalForm text ++ r) → hopeful P text ≡ true
     unfolding hopeful
-    derived-hopeful r d =
+    admitted-hopeful r (d, h) =
         let n = neither (anyOf (unfit P) (normalForm text)) (anyOf (unfit P) r) (sym (any-append (unfit P) (normalForm text) r) ∙ named P (H .laws) d .fit) .0 in
-        rw (n, derived-grows P H (normalForm text) r d refl)
+        rw (n, admitted-grows P H (normalForm text) r d h refl)
 
-    from-form : {k : Class} {f g : List ℕ} → Continues f g → Derives P k g → (r : List ℕ) × Derives P k (f ++ r)
-    from-form (apart f r) d = (r, d)
-    from-form (joined f b m r n) d = (r, rw (append-snoc f b r) (uncomposed P H f b m n r d refl))
+    from-form : {k : Class} {f g : List ℕ} → Continues f g → Admitted P k g → (r : List ℕ) × Admitted P k (f ++ r)
+    from-form (apart f r) a = (r, a)
+    from-form (joined f b m r n) a = (r, rw (append-snoc f b r) (uncomposed P H f b m n r (a .0) refl))
 
     continuable : MayBecome P text → hopeful P text ≡ true
     continuable c =
         let s = c .0 in
         let d = accepted-derives P (H .laws) (text ++ s) (class P (text ++ s)) .0 (number-accepted P (text ++ s) (c .1)) in
         let k = from-form (continued text s) d in
-        derived-hopeful (k .0) (k .1)
+        admitted-hopeful (k .0) (k .1)
 
     pub hopeful-exactly : (hopeful P text ≡ true) ↔ MayBecome P text
     hopeful-exactly = (witness, continuable)

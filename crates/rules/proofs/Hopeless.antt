@@ -20,7 +20,7 @@ use Rattle.rules.proofs.Derived.{meets-length, middle-length}
 use Rattle.rules.proofs.Growing.{leftmost-meets, begins-is, one-of}
 
 pub leftmost-length : (P : Permits) (l : List ℕ) → leftmost P l ≡ true → length l ≤ 63
-leftmost-length P l e = meets-length P 3 l (leftmost-meets P l e)
+leftmost-length P l e = meets-length P 3 l (leftmost-meets P l e .0)
 
 pub begins-length : (l w : List ℕ) → begins l w ≡ true → length l ≤ length w
 begins-length l w e = let k = begins-is l w e in omega (arith, length-append l (k .0), ap length (k .1))

@@ -5,6 +5,7 @@ pub mod ByName
 pub mod Sound
 pub mod ReaderAgrees
 pub mod Derived
+pub mod Pretends
 pub mod Exactly
 pub mod Today
 pub mod Steps

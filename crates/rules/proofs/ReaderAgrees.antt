@@ -1,5 +1,5 @@
--- The second reader says yes exactly where the rules let a label be: what it has seen at the end of a label is what the rules ask of
--- the whole, and its two rules part only at a label's end.
+-- The second reader says yes exactly where the rules let a label be, but for 17: what it has seen at the end of a label is what 7 to 10 ask
+-- of the whole, and its two rules part only at a label's end.
 -- Assumes nothing.
 use mathlib.Core.Path.{_≡_, refl, sym, _∙_}
 use mathlib.Core.Bool.{Bool, true, false, not, _&&_, _||_, or-false, or-assoc}
@@ -10,13 +10,16 @@ use native.Mathlib.Omega.{arith}
 use lib.ListN.{length}
 use borrow.Author.Tests.{not-true}
 use Rattle.lists.specs.Tests.{pick, allOf, anyOf}
+use Rattle.lists.specs.Rows.{accepted, first, without, Clear}
 use Rattle.lists.proofs.Laws.{both, neither}
+use Rattle.lists.proofs.Tables.{clear}
 use Rattle.characters.specs.Characters.{hyphen}
 use Rattle.rules.specs.Permits.{Permits, jaChar, Laws, labelChar, isEmpty}
-use Rattle.rules.specs.Rules.{middleDot, ordinary, isJapanese, beginsWithHyphen, endsWithHyphen, hyphenEdge, short, long, bareDot, Sound}
+use Rattle.rules.specs.Rules.{middleDot, ordinary, isJapanese, beginsWithHyphen, endsWithHyphen, hyphenEdge, short, long, ofName, pretends, bareDot, labelRows, Meets, Sound}
 use Rattle.rules.specs.Grammar.{label}
 use Rattle.rules.specs.Reader.{nothing, note, skip, lengthFits, ending, afterCharacter, afterHyphen, reader}
 use Rattle.rules.specs.declared.Seen.{Seen}
+use Rattle.rules.proofs.ByName.{clear-meets, meets-clear, label-clear, label-17}
 use Rattle.rules.proofs.Sound.{ascii-not, ascii-no-dot, hyphen-ascii, ascii-label, label-sound, sound-label}
 
 -- all of a list noted
@@ -143,6 +146,23 @@ module _ (P : Permits) (L : Laws P) where
   pub reader-agrees : (l : List ℕ) → (reader P l ≡ true) ↔ Sound P 3 l
   reader-agrees l = (reads-sound l, sound-reads l)
 
-  -- so it reads the grammar's labels
+  -- in the words of the table: no row but 17 applies to it as a leftmost label
+  pub agrees-but-17 : (l : List ℕ)
+      → (reader P l ≡ true) ↔ ((allOf (labelChar P) l ≡ true) × (isEmpty l ≡ false) × Clear (without 17 (labelRows P ofName l 0)))
+  agrees-but-17 l = (
+    λ e. let S = reads-sound l e in (S .chars, S .filled, meets-clear P ofName l 0 (S .meets)),
+    λ h. sound-reads l (record { chars = h .0; filled = h .1; meets = clear-meets P ofName l 0 (h .2) }),
+  )
+
+  -- so to a label that it reads the table answers 17 where the label pretends, and accepts every other
+  pub read-answer : (l : List ℕ) → reader P l ≡ true
+      → first (labelRows P ofName l 0) ≡ pick (pretends P ofName l) (record { number = 17; place = 0 }) accepted
+  read-answer l e = let m = reads-sound l e .meets in go (pretends P ofName l) refl m
+    where
+      go : (b : Bool) → pretends P ofName l ≡ b → Meets P 3 l → first (labelRows P ofName l 0) ≡ pick b (record { number = 17; place = 0 }) accepted
+      go true p m = label-17 P ofName l 0 m p
+      go false p m = clear (labelRows P ofName l 0) (label-clear P ofName l 0 m p)
+
+  -- and it reads the grammar's labels
   pub reads-labels : (l : List ℕ) → (reader P l ≡ true) ↔ label P l
   reads-labels l = (λ e. sound-label P L (reads-sound l e), λ d. sound-reads l (label-sound P L d))

@@ -58,7 +58,7 @@ alnum-says c = (go (within 0x30 0x39 c) refl, back)
     back (G.letter p q) = or-right (within 0x30 0x39 c) (within 0x61 0x7A c) (inside 0x61 0x7A c p q)
     back (G.digit p q) = or-left (within 0x30 0x39 c) (within 0x61 0x7A c) (inside 0x30 0x39 c p q)
 
-hyphen-says : Says hyphen G.HYPHEN
+pub hyphen-says : Says hyphen G.HYPHEN
 unfolding hyphen
 hyphen-says c = (λ e. G.hyphen (eqb-true c 0x2D e), back)
   where

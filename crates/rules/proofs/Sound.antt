@@ -135,15 +135,24 @@ module _ (P : Permits) (L : Laws P) where
   unfolding labelChar
   label-ascii c e n = rw n at e
 
+  all-ascii : {l : List ℕ} → G.ASCII-label l → allOf asciiSet l ≡ true
+  all-ascii (G.ascii {a = a} {z = z} {m = m} p r lo hi q) =
+      all-ends a m z asciiSet ∙ rw (alnum-ascii a (alnum-says a .1 p) .0, star-all _ _ ascii-says r, alnum-ascii z (alnum-says z .1 q) .0)
+
+  -- it holds no Japanese character
+  pub ascii-only : {l : List ℕ} → G.ASCII-label l → isJapanese P l ≡ false
+  unfolding isJapanese
+  ascii-only {l} d = all-none asciiSet (jaChar P) (ascii-not P L) l (all-ascii d)
+
   ascii-sound : {l : List ℕ} → G.ASCII-label l → Sound P 3 l
-  unfolding isEmpty isJapanese short long bareDot
+  unfolding isEmpty short long bareDot
   ascii-sound (G.ascii {a = a} {z = z} {m = m} p r lo hi q) =
       let w : List ℕ = a ∷ (m ++ (z ∷ [])) in
       let pa = alnum-says a .1 p in
       let pz = alnum-says z .1 q in
       let rm : allOf asciiSet m ≡ true = star-all _ _ ascii-says r in
-      let all : allOf asciiSet w ≡ true = all-ends a m z asciiSet ∙ rw (alnum-ascii a pa .0, rm, alnum-ascii z pz .0) in
-      let no-ja : anyOf (jaChar P) w ≡ false = all-none asciiSet (jaChar P) (ascii-not P L) w all in
+      let all : allOf asciiSet w ≡ true = all-ascii (G.ascii p r lo hi q) in
+      let no-ja : isJapanese P w ≡ false = ascii-only (G.ascii p r lo hi q) in
       let n : length w ≡ length m + 2 = length-ends a m z in
       let F = framed a m z (alnum-edge a pa) (all-weaker asciiSet (labelChar P) ascii-label m rm) (alnum-edge z pz) in
       record {
@@ -157,7 +166,7 @@ module _ (P : Permits) (L : Laws P) where
         };
       }
 
-  sound-ascii : {l : List ℕ} → Ends l → Sound P 3 l → anyOf (jaChar P) l ≡ false → G.ASCII-label l
+  pub sound-ascii : {l : List ℕ} → Ends l → Sound P 3 l → anyOf (jaChar P) l ≡ false → G.ASCII-label l
   unfolding isEmpty isJapanese short long
   sound-ascii empty S e = absurd (true≢false (S .filled))
   sound-ascii (single a) S e = absurd (true≢false (rw e at (S .meets .enough)))

@@ -10,14 +10,14 @@ use lib.Dec.{eqb}
 use lib.ListN.{length, getD}
 use borrow.Author.Tests.{eq-eqb, ne-eqb, lt-ltb, le-ltb}
 use Rattle.lists.specs.Tests.{anyOf, indexOf, same}
-use Rattle.lists.specs.Rows.{Row, row, first}
+use Rattle.lists.specs.Rows.{first}
 use Rattle.lists.specs.declared.Answer.{Answer}
 use Rattle.lists.proofs.Tables.{clear, clear-before, refused-before, hit, passed-over}
 use Rattle.characters.specs.Characters.{hyphen}
 use Rattle.normal.specs.Normal.{normalForm, places}
 use Rattle.rules.specs.Labels.{labels}
 use Rattle.rules.specs.Permits.{Permits, middle, isEmpty}
-use Rattle.rules.specs.Rules.{unfit, beginsWithHyphen, endsWithHyphen, hyphenEdge, labelRows, jp, lastRows, nameRows, frontRows, textRows, classOf, verdict, byLabels, rules, accepted, refused}
+use Rattle.rules.specs.Rules.{unfit, beginsWithHyphen, endsWithHyphen, hyphenEdge, ofName, labelRows, jp, lastRows, nameRows, frontRows, textRows, classOf, verdict, byLabels, rules, accepted, refused}
 use Rattle.rules.specs.declared.Verdict.{Verdict}
 use Rattle.rules.proofs.ByName.{label-cleared, front-clear, front-cleared}
 
@@ -41,7 +41,7 @@ unfolding isEmpty
 empty-is [] = refl
 empty-is (x ∷ xs) = sym (ne-eqb (suc (length xs)) 0 (λ e. omega arith))
 
--- ---- labels: 5 to 12
+-- ---- labels: 5 to 12 and 17
 
 module _ (P : Permits) (ls : List (List ℕ)) where
   -- an answer of the table, said as a verdict
@@ -59,22 +59,22 @@ module _ (P : Permits) (ls : List (List ℕ)) where
 
     module _ (no-6 : anyOf isEmpty ls ≡ false) where
       -- the answer of the rows from 7 on
-      on : {a : Answer} → first (labelRows P 3 (getD ls 0 []) 0 ++ lastRows P ls) ≡ a → first (nameRows P ls) ≡ a
+      on : {a : Answer} → first (labelRows P ofName (getD ls 0 []) 0 ++ lastRows P ls) ≡ a → first (nameRows P ls) ≡ a
       unfolding nameRows
       on e = passed-over 5 _ 0 _ (ap not no-5) ∙ passed-over 6 _ _ _ no-6 ∙ e
 
-      module _ {a : Answer} (e : a ≡ first (labelRows P 3 (getD ls 0 []) 0)) where
-        number-is : a .number ≡ first (labelRows P 3 (getD ls 0 []) 0) .number
+      module _ {a : Answer} (e : a ≡ first (labelRows P ofName (getD ls 0 []) 0)) where
+        number-is : a .number ≡ first (labelRows P ofName (getD ls 0 []) 0) .number
         number-is = ap (λ (x : Answer). x .number) e
 
         pub name-left : (a .number ≡ 0 → ⊥) → byLabels P ls ≡ refused (a .number) (a .place)
         unfolding verdict
         name-left h =
-            told (on (refused-before (labelRows P 3 (getD ls 0 []) 0) (lastRows P ls) (λ z. h (number-is ∙ z)) ∙ sym e)) (rw (ne-eqb (a .number) 0 h))
+            told (on (refused-before (labelRows P ofName (getD ls 0 []) 0) (lastRows P ls) (λ z. h (number-is ∙ z)) ∙ sym e)) (rw (ne-eqb (a .number) 0 h))
 
         module _ (z : a .number ≡ 0) where
           past : {b : Answer} → first (lastRows P ls) ≡ b → first (nameRows P ls) ≡ b
-          past f = on (clear-before (labelRows P 3 (getD ls 0 []) 0) (lastRows P ls) (label-cleared P 3 (getD ls 0 []) 0 (sym number-is ∙ z)) ∙ f)
+          past f = on (clear-before (labelRows P ofName (getD ls 0 []) 0) (lastRows P ls) (label-cleared P ofName (getD ls 0 []) 0 (sym number-is ∙ z)) ∙ f)
 
           pub name-11 : same (getD ls (length ls - 1) []) jp ≡ false → byLabels P ls ≡ refused 11 0
           unfolding verdict
@@ -110,7 +110,7 @@ module _ (P : Permits) (text : List ℕ) where
     pub front-0 : length text ≤ 256 → anyOf (unfit P) (normalForm text) ≡ false → first (frontRows P text) ≡ record { number = 0; place = 0 }
     front-0 few e = clear (frontRows P text) (front-clear P text (record { some = omega arith; few = few; fit = e }))
 
-  -- ---- what they refuse the rules refuse; else the rules say what 5 to 12 say of the labels
+  -- ---- what they refuse the rules refuse; else the rules say what 5 to 12 and 17 say of the labels
 
   module _ {a : Answer} (e : first (frontRows P text) ≡ a) where
     front-number : first (frontRows P text) .number ≡ a .number

@@ -7,7 +7,6 @@ use mathlib.Core.List.{List, [], _∷_, _++_}
 use mathlib.Core.Path.{_≡_}
 use Prim.Native.Nat.{ℕ, _≤_}
 use lib.ListN.{length}
-use Rattle.normal.specs.Normal.{normalForm}
 use Rattle.rules.specs.Permits.{Permits, jaChar, middle}
 use Rattle.rules.specs.declared.Class.{Class}
 use Rattle.rules.specs.declared.Class.the-variants.{General, Prefecture}
@@ -91,10 +90,3 @@ module _ (P : Permits) where
     general : {l : List ℕ} → label l → Derives General (l ++ 0x2E ∷ 0x6A ∷ 0x70 ∷ [])
     prefecture : {l m : List ℕ} → label l → prefecture-label m
         → Derives Prefecture (l ++ 0x2E ∷ (m ++ 0x2E ∷ 0x6A ∷ 0x70 ∷ []))
-
--- what a text must be to be a name of class k: 1 to 256 code points, and its normal form derives as one. No derivable
--- name is lost to the limit (proofs/Exactly)
-pub record Granted (P : Permits) (k : Class) (text : List ℕ) : Type 0 where
-  pub some : 1 ≤ length text
-  pub few : length text ≤ 256
-  pub name : Derives P k (normalForm text)

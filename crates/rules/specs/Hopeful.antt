@@ -14,7 +14,7 @@ use Rattle.characters.specs.Compose.{composed}
 use Rattle.normal.specs.Normal.{normalForm}
 use Rattle.rules.specs.Labels.{labels}
 use Rattle.rules.specs.Permits.{Permits, jaChar, middle, Laws}
-use Rattle.rules.specs.Rules.{unfit, labelRows, jp, rules}
+use Rattle.rules.specs.Rules.{unfit, ofName, labelRows, jp, rules}
 
 -- ---- what is meant
 
@@ -28,9 +28,9 @@ MayBecome P text = (s : List ℕ) × (rules P (text ++ s) .number ≡ 0)
 unfoldable pub begins : List ℕ → List ℕ → Bool
 begins l w = same l (take (length l) w)
 
--- none of 7 to 10 applies to it as a leftmost label
+-- none of 7 to 10 and 17 applies to it as a leftmost label
 unfoldable pub leftmost : Permits → List ℕ → Bool
-leftmost P l = eqb (first (labelRows P 3 l 0) .number) 0
+leftmost P l = eqb (first (labelRows P ofName l 0) .number) 0
 
 -- the hiragana that is tried
 abbrev pub filler : ℕ

@@ -1,4 +1,5 @@
--- Texts that may yet become a name, and texts refused for good, as one table under one statement.
+-- Texts that may yet become a name, and texts refused for good, as one table under one statement, computed by the bits
+-- of the kanji as in Tried (of the edition in force: proofs/InForce, `tried-hopeful-today`).
 use mathlib.Core.Path.{_≡_, refl}
 use mathlib.Core.Bool.{Bool, true, false}
 use mathlib.Core.List.{List, [], _∷_, _++_}
@@ -6,25 +7,30 @@ use Prim.Native.Nat.{ℕ}
 use lib.ListN.{replicate}
 use Rattle.lists.specs.Tests.{within, allOf, anyOf, indexOf, elem, same}
 use Rattle.lists.specs.Rows.{first}
-use Rattle.characters.specs.Kanji.{kanji}
-use Rattle.characters.specs.Characters.{alnum, hyphen, asciiSet, hiragana, katakana, signs, japaneseBy, japanese}
+use Rattle.characters.specs.KanjiBits.{kanjiBits}
+use Rattle.characters.specs.Characters.{alnum, hyphen, asciiSet, hiragana, katakana, signs, japaneseBy, kanjiWith}
+use Rattle.characters.specs.Characters.{japaneseWith}
 use Rattle.characters.specs.Replace.{ranges, rangeIn, halfKana, isHalf, replaceIn, replace}
 use Rattle.characters.specs.Compose.{voiced, repeats, halfVoiced, eitherKana, composed}
 use Rattle.normal.specs.Normal.{replacedFrom, compose, normalPlaced, normalForm, places}
 use Rattle.rules.specs.Labels.{period, intoFirst, labels}
-use Rattle.rules.specs.Permits.{jaChar, labelChar, middle, isEmpty}
+use Rattle.rules.specs.Permits.{Permits, jaChar, labelChar, middle, isEmpty}
 use Rattle.rules.specs.Rules.{unfit, middleDot, ordinary, isJapanese, beginsWithHyphen, endsWithHyphen}
-use Rattle.rules.specs.Rules.{hyphenEdge, short, long, bareDot, labelRows, jp}
+use Rattle.rules.specs.Rules.{hyphenEdge, short, long, hyphenPair, pretends, bareDot, labelRows, jp}
 use Rattle.rules.specs.Prefectures.{prefectures}
-use Rattle.rules.specs.Editions.{today}
+use Rattle.rules.specs.Editions.{todayWith}
 use Rattle.rules.specs.Hopeful.{begins, leftmost, tries, grows, hopeful}
 
-abbrev says : List (List ℕ) → List Bool
-says [] = []
-says (t ∷ ts) = hopeful today t ∷ says ts
+abbrev says : Permits → List (List ℕ) → List Bool
+says P [] = []
+says P (t ∷ ts) = hopeful P t ∷ says P ts
 
 abbrev hiraganas : ℕ → List ℕ
 hiraganas n = replicate n 0x3042
+
+-- ab-- and so many letters more
+abbrev paired : ℕ → List ℕ
+paired n = 0x61 ∷ 0x62 ∷ 0x2D ∷ 0x2D ∷ replicate n 0x61
 
 abbrev yes : List (List ℕ)
 yes =
@@ -51,6 +57,8 @@ yes =
     (hiraganas 13 ++ 0x2212 ∷ []) ∷
     -- sixteen code points, fifteen characters
     (hiraganas 14 ++ 0xFF76 ∷ 0xFF9E ∷ []) ∷
+    -- document 02, K3: ab-- and ten letters; with a hiragana it is a Japanese label
+    paired 10 ∷
     []
 
 abbrev no : List (List ℕ)
@@ -77,12 +85,19 @@ no =
     (0x2212 ∷ []) ∷
     (hiraganas 14 ++ 0x2212 ∷ []) ∷
     (0x61 ∷ 0x62 ∷ 0x63 ∷ 0x2E ∷ 0x63 ∷ 0x2212 ∷ []) ∷
+    -- document 02, K3: ab-- and eleven letters; ab--a.
+    paired 11 ∷
+    (paired 1 ++ 0x2E ∷ []) ∷
     []
 
-pub tried-hopeful : (says yes ≡ replicate 18 true) × (says no ≡ replicate 18 false)
-unfolding within allOf anyOf indexOf elem same first kanji alnum hyphen asciiSet hiragana katakana signs japaneseBy
-    japanese ranges rangeIn halfKana isHalf replaceIn replace voiced repeats halfVoiced eitherKana composed replacedFrom
-    compose normalPlaced normalForm places period intoFirst labels jaChar labelChar isEmpty unfit middleDot ordinary
-    isJapanese beginsWithHyphen endsWithHyphen hyphenEdge short long bareDot labelRows jp prefectures middle today
-    begins leftmost tries grows hopeful
+-- the first may, the others may not
+abbrev pub Tells : Permits → Type 0
+Tells P = (says P yes ≡ replicate 19 true) × (says P no ≡ replicate 20 false)
+
+pub tried-hopeful : Tells (todayWith kanjiBits)
+unfolding within allOf anyOf indexOf elem same first alnum hyphen asciiSet hiragana katakana signs japaneseBy kanjiWith
+    japaneseWith ranges rangeIn halfKana isHalf replaceIn replace voiced repeats halfVoiced eitherKana composed
+    replacedFrom compose normalPlaced normalForm places period intoFirst labels jaChar labelChar isEmpty unfit middleDot
+    ordinary isJapanese beginsWithHyphen endsWithHyphen hyphenEdge short long hyphenPair pretends bareDot labelRows jp
+    prefectures middle todayWith begins leftmost tries grows hopeful
 tried-hopeful = (refl, refl)

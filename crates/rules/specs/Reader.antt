@@ -1,5 +1,5 @@
 -- The second reader of labels, as document 004 is written: one rule stands after a letter, digit or Japanese
--- character, the other after a hyphen, each handing the rest of the label to the other.
+-- character, the other after a hyphen, each handing the rest of the label to the other. It knows nothing of 17.
 use mathlib.Core.Bool.{Bool, false, not, _&&_, _||_}
 use mathlib.Core.List.{List, [], _∷_}
 use Prim.Native.Nat.{ℕ, _+_}

@@ -1,5 +1,5 @@
--- The rules of a name: document 01's table, 'Numbers a call may answer', 2 to 12, a row each; the first that applies
--- is given.
+-- The rules of a name: document 01's table, 'Numbers a call may answer', 2 to 12, and 17 of document 02, K3, a row
+-- each; the first that applies is given.
 use mathlib.Core.Bool.{Bool, true, false, not, _&&_, _||_}
 use mathlib.Core.List.{List, [], _∷_, _++_}
 use mathlib.Core.Logic.{_↔_}
@@ -8,7 +8,7 @@ use Prim.Native.Nat.{ℕ, _-_}
 use lib.Dec.{eqb, ltb}
 use lib.ListN.{length, getD}
 use Rattle.lists.specs.Tests.{pick, allOf, anyOf, indexOf, same}
-use Rattle.lists.specs.Rows.{Row, row, first}
+use Rattle.lists.specs.Rows.{Row, row, first, without}
 use Rattle.lists.specs.declared.Answer.{Answer}
 use Rattle.characters.specs.Characters.{hyphen}
 use Rattle.normal.specs.Normal.{normalForm, places}
@@ -63,20 +63,45 @@ longAs japanese l = ltb (pick japanese 15 63) (length l)
 unfoldable pub long : Permits → List ℕ → Bool
 long P l = longAs (isJapanese P l) l
 
+-- hyphens in its third and fourth places, which RFC 5891 (4.2.3.1) sets aside
+unfoldable pub hyphenPair : List ℕ → Bool
+hyphenPair l = hyphen (getD l 2 0) && hyphen (getD l 3 0)
+
+-- what a family of names asks of a label: how many characters an ASCII one must have, and whether the pair is refused
+-- in every label or in an ASCII one alone
+pub record Asks : Type 0 where
+  pub least : ℕ
+  pub everyPair : Bool
+
+abbrev pub asks : ℕ → Bool → Asks
+asks least everyPair = record { least = least; everyPair = everyPair }
+
+-- of the leftmost label of a name
+abbrev pub ofName : Asks
+ofName = asks 3 false
+
+-- it pretends to be encoded (document 02, K3): it has the pair where that is refused
+abbrev pub pretendsAs : Bool → Asks → List ℕ → Bool
+pretendsAs japanese A l = hyphenPair l && (A .everyPair || not japanese)
+
+unfoldable pub pretends : Permits → Asks → List ℕ → Bool
+pretends P A l = pretendsAs (isJapanese P l) A l
+
 -- a middle dot, and no Japanese character other than the three
 unfoldable pub bareDot : Permits → List ℕ → Bool
 bareDot P l = anyOf middleDot l && not (anyOf (ordinary P) l)
 
--- 7 to 10, of a label that must have at least so many characters where it is ASCII, with their place
-unfoldable pub labelRows : Permits → ℕ → List ℕ → ℕ → List Row
-labelRows P least l at =
+-- 7 to 10 and 17, of a label, with their place
+unfoldable pub labelRows : Permits → Asks → List ℕ → ℕ → List Row
+labelRows P A l at =
     row 7 (hyphenEdge l) at ∷
-    row 8 (short P least l) at ∷
+    row 8 (short P (A .least) l) at ∷
     row 9 (long P l) at ∷
+    row 17 (pretends P A l) at ∷
     row 10 (bareDot P l) at ∷
     []
 
--- none of them applies, rule by rule
+-- none of 7 to 10 applies, rule by rule
 pub record Meets (P : Permits) (least : ℕ) (l : List ℕ) : Type 0 where
   pub edge : hyphenEdge l ≡ false
   pub enough : short P least l ≡ false
@@ -102,12 +127,12 @@ lastRows P ls =
     row 12 (eqb (length ls) 3 && not (middle P (getD ls 1 []))) 0 ∷
     []
 
--- 5 to 12
+-- 5 to 12 and 17
 unfoldable pub nameRows : Permits → List (List ℕ) → List Row
 nameRows P ls =
     row 5 (not (eqb (length ls) 2 || (P .three && eqb (length ls) 3))) 0 ∷
     row 6 (anyOf isEmpty ls) (indexOf isEmpty ls) ∷
-    (labelRows P 3 (getD ls 0 []) 0 ++ lastRows P ls)
+    (labelRows P ofName (getD ls 0 []) 0 ++ lastRows P ls)
 
 -- 2 to 4, of an application text
 unfoldable pub frontRows : Permits → List ℕ → List Row
@@ -118,7 +143,7 @@ frontRows P text =
     row 4 (anyOf (unfit P) form) (getD (places text) (indexOf (unfit P) form) 0) ∷
     []
 
--- 2 to 12
+-- 2 to 12 and 17
 unfoldable pub textRows : Permits → List ℕ → List Row
 textRows P text = frontRows P text ++ nameRows P (labels (normalForm text))
 
@@ -132,13 +157,17 @@ classOf ls = pick (eqb (length ls) 3) Prefecture General
 unfoldable pub verdict : Answer → List (List ℕ) → Verdict
 verdict a ls = record { number = a .number; place = a .place; class = pick (eqb (a .number) 0) (classOf ls) None }
 
--- what 5 to 12 say of the labels of a form: document 01, 'Numbers a call may answer'
+-- what 5 to 12 and 17 say of the labels of a form
 abbrev pub byLabels : Permits → List (List ℕ) → Verdict
 byLabels P ls = verdict (first (nameRows P ls)) ls
 
 -- ONE set of rules: what is said of a text, given room
 unfoldable pub rules : Permits → List ℕ → Verdict
 rules P text = verdict (first (textRows P text)) (labels (normalForm text))
+
+-- the same without the row of a number
+unfoldable pub rulesBut : ℕ → Permits → List ℕ → Verdict
+rulesBut n P text = verdict (first (without n (textRows P text))) (labels (normalForm text))
 
 -- accepted as a name of class k, and refused
 abbrev pub accepted : Class → Verdict

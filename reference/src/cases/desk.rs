@@ -32,6 +32,16 @@ fn shapes(file: &mut CaseFile) {
     file.batch("a\t\u{3042}.jp\n\u{3042}\tabc.jp\nb\tABC\u{3002}JP\n".as_bytes());
     file.batch("a\tABC.TOKYO.JP\nb\tabc.tokio.jp\nc\tabc.com\nd\tabc.jp.\ne\tjp\nf\tab.jp\n".as_bytes());
     file.batch("a\t\u{30FB}.jp\nb\t-a.jp\nc\t\u{3046}\u{309B}.jp\nd\t\ne\t.jp\n".as_bytes());
+    // Names that pretend to be encoded (K3), and others with two hyphens.
+    file.batch("a\txn--l8j.jp\nb\tXN--L8J.JP\nc\tab--c.TOKYO.jp\nd\tab--c.\u{6771}\u{4EAC}.jp\n".as_bytes());
+    file.batch(
+        "a\t\u{FF58}\u{FF2E}\u{FF0D}\u{2212}l8j\u{3002}jp\nb\tab--c.com\nc\tab--c.tokio.jp".as_bytes(),
+    );
+    file.batch("a\ta--b.jp\nb\tabc--d.jp\nc\tab--\u{3042}.jp\nd\tab--.jp\ne\tab--\u{30FB}.jp\n".as_bytes());
+    file.batch("xn--l8j\txn--l8j.jp\nab--c\tab--c\nd\tab--c..jp\ne\tabc.ab--c.jp\nf\tabc.ab--c\n".as_bytes());
+    for length in [62, 63, 64] {
+        file.batch(format!("x\tab--{}.jp\n", "c".repeat(length - 4)).as_bytes());
+    }
     for (name, times) in
         [("a", 255), ("a", 256), ("a", 257), ("\u{FF76}\u{FF9E}", 128), ("\u{3042}", 257), ("\u{1F600}", 25)]
     {

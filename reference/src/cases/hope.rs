@@ -14,7 +14,7 @@ use std::collections::BTreeSet;
 const PERIODS: [&str; 4] = [".", "\u{FF0E}", "\u{3002}", "\u{FF61}"];
 
 pub fn add(file: &mut CaseFile) {
-    let labels = [growing(), at_the_edge(), before_periods(), marks()].concat();
+    let labels = [growing(), at_the_edge(), before_periods(), marks(), pairs(), long_pairs()].concat();
     let picked = [tried::texts(), labels, second_labels(), astray(), last_labels()].concat();
     let mut texts: BTreeSet<Vec<u32>> = picked.iter().map(|text| points(text)).collect();
     texts.extend(unfit().into_iter().chain(long()).chain(random()));
@@ -104,6 +104,44 @@ fn marks() -> Vec<String> {
         texts.push("\u{FF76}\u{FF9E}".repeat(15) + end);
     }
     texts.extend([13, 14].map(|length| "\u{FF76}\u{FF9E}".repeat(length) + "-\u{30FB}."));
+    texts
+}
+
+/// Hyphens in the third and fourth places, and beside them, in labels that are
+/// Japanese, may still become so, or end without.
+fn pairs() -> Vec<String> {
+    let fronts = [
+        "ab--", "0a\u{FF0D}\u{2212}", "\u{FF38}N\u{2212}-", "b---", "\u{3042}b--", "b\u{3042}--",
+        "\u{30FB}b--", "\u{FF8A}\u{FF9E}\u{3042}--", "abc--", "b--c", "bc-d",
+    ];
+    let ends = ["c", "-c", "\u{3044}", "-\u{3044}", "\u{30FB}", "c\u{30FC}", "\u{309B}"];
+    let mut texts = Vec::new();
+    for front in fronts {
+        for end in ends {
+            let period = PERIODS[texts.len() % 4];
+            texts.push(format!("{front}{end}{period}j"));
+        }
+    }
+    texts.extend(
+        ["cd--.", "cd-.", "cd-e.", "cd--_", "cd--e.jp", "cd--e.nara.jp", "cd--e\u{3042}.nara.jp"]
+            .map(String::from),
+    );
+    texts
+}
+
+/// A Japanese character must come among the first fifteen, an ordinary one
+/// where there is a middle dot. Without the pair the letters go on to 63.
+fn long_pairs() -> Vec<String> {
+    let mut texts = vec![format!("de--{}", "f".repeat(60)), format!("def--{}", "g".repeat(59))];
+    for length in [13, 14, 15, 16] {
+        let more = length - 4;
+        texts.extend(
+            ["\u{3042}.", "-\u{3042}.", "\u{30FB}.", "-"].map(|end| format!("ef--{}{end}", "g".repeat(more))),
+        );
+        texts.push(format!("\u{3042}h--{}.", "i".repeat(more)));
+        texts.push(format!("hi--{}.", "\u{FF76}\u{FF9E}".repeat(more)));
+        texts.push(format!("ij--{}\u{3005}.", "\u{30FB}".repeat(more)));
+    }
     texts
 }
 

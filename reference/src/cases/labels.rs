@@ -1,5 +1,6 @@
 //! The calls on one label. A case has the halves of where to begin, of the
-//! least length and of the label's place, and then the label.
+//! least length and of the label's place, and then the label. LEN says in which
+//! labels the hyphen pair is refused: with 0 in ASCII labels alone, else in all.
 
 use super::kinds::{alike, borders, IN_A_CASE};
 use super::random::NameMaker;
@@ -24,12 +25,26 @@ pub fn add(file: &mut CaseFile) {
     last_labels(file);
     prefectures(file);
     taken(file);
+    pairs(file);
+    pair_places(file);
+    pair_orders(file);
+}
+
+/// The numbers of a case.
+pub fn numbers(from: usize, least: usize, place: usize, label: &[u32]) -> Vec<u32> {
+    let halves = [from, least, place].into_iter().flat_map(|number| [(number >> 32) as u32, number as u32]);
+    halves.chain(label.iter().copied()).collect()
 }
 
 fn add_label(file: &mut CaseFile, from: usize, least: usize, place: usize, label: &[u32]) {
-    let halves = [from, least, place].into_iter().flat_map(|number| [(number >> 32) as u32, number as u32]);
-    let numbers: Vec<u32> = halves.chain(label.iter().copied()).collect();
-    file.add('Q', 0, &numbers);
+    file.add('Q', 0, &numbers(from, least, place, label));
+}
+
+/// A label with the pair refused in ASCII labels alone, and in every label.
+fn both_ways(file: &mut CaseFile, least: usize, place: usize, label: &[u32]) {
+    for every in [0, 1] {
+        file.add('Q', every, &numbers(0, least, place, label));
+    }
 }
 
 /// A label by itself, as the leftmost one.
@@ -189,7 +204,8 @@ fn mixed(file: &mut CaseFile) {
     }
 }
 
-/// Random names and damaged copies, from anywhere on, of any least length.
+/// Random names and damaged copies, from anywhere on, of any least length, with
+/// the pair refused in some labels or in all.
 fn random(file: &mut CaseFile) {
     let mut random = Random::seeded(SEED ^ 0x1ABE);
     let maker = NameMaker::default();
@@ -199,7 +215,7 @@ fn random(file: &mut CaseFile) {
         for text in [normal, damaged] {
             let from = random.below(text.len() + 2);
             let least = random.below(70);
-            add_label(file, from, least, random.below(4), &text);
+            file.add('Q', random.below(3), &numbers(from, least, random.below(4), &text));
         }
     }
 }
@@ -270,6 +286,77 @@ fn taken(file: &mut CaseFile) {
         }
         for label in dots {
             add_label(file, 0, least, 1, &points(label));
+        }
+    }
+}
+
+/// Labels with the hyphen pair, with hyphens near its places, and without it.
+/// Then what is no pair: nothing is replaced here, and only 2D is a hyphen.
+fn pairs(file: &mut CaseFile) {
+    let labels = [
+        "ab--c", "01--2", "xn--l8j", "a---b", "ab---c", "ab--c--d", "a--b", "abc--d", "ab-c", "abc-d",
+        "ab--\u{3042}", "\u{3042}b--c", "a\u{3042}--c", "\u{3042}\u{3044}--\u{3046}", "\u{30FC}b--c",
+        "a--\u{3042}", "abc--\u{3042}", "ab-\u{3042}", "abc-\u{3042}", "ab--\u{30FB}\u{3005}", "abc",
+        "\u{3042}", "ab", "", "-", "\u{30FB}", "AB--C", "a.--b", "a_--b", "ab--.c", "ab--c.jp",
+        "ab\u{FF0D}\u{FF0D}c", "ab\u{2212}-\u{3042}", "\u{FF8A}\u{FF9E}--c", "\u{FF8A}\u{FF9E}\u{3042}--c",
+    ];
+    for label in labels.map(points) {
+        both_ways(file, 3, 0, &label);
+        both_ways(file, 0, 2, &label);
+    }
+    for every in [2, 7, 255, 256, 300] {
+        for label in ["ab--c", "ab--\u{3042}", "a--\u{3042}", "\u{3042}", "ab--\u{30FB}"].map(points) {
+            file.add('Q', every, &numbers(0, 3, 1, &label));
+        }
+    }
+    // Alike in their lower halves.
+    for (third, fourth) in [(0x1_002D, 0x2D), (0x2D, 0x8000_002D), (0x12D, 0x2D), (0x2D, 0xFFFF_FF2D)] {
+        both_ways(file, 3, 0, &[0x61, 0x62, third, fourth, 0x63]);
+    }
+}
+
+/// Two hyphens at each place of short labels, ASCII and Japanese, and a label
+/// of each kind at many places.
+fn pair_places(file: &mut CaseFile) {
+    for length in 4..=7 {
+        for place in 0..length - 1 {
+            for unit in [0x61, 0x3042] {
+                let mut label = vec![unit; length];
+                label[place..place + 2].fill(0x2D);
+                both_ways(file, 3, 1, &label);
+            }
+        }
+    }
+    for label in ["ab--c", "ab--\u{3042}"].map(points) {
+        for place in [1, 2, 3, 255, 256].into_iter().chain(HUGE) {
+            both_ways(file, 3, place, &label);
+        }
+    }
+}
+
+/// Labels to which the pair and one or two of the other refusals apply.
+fn pair_orders(file: &mut CaseFile) {
+    let labels = [
+        "ab--".to_string(),
+        "-a--b".to_string(),
+        "ab--c-".to_string(),
+        "----".to_string(),
+        "ab--\u{3042}-".to_string(),
+        "ab--\u{30FB}".to_string(),
+        "ab--\u{30FB}-".to_string(),
+        "-\u{30FB}--\u{30FC}".to_string(),
+        "\u{30FB}\u{3006}--a".to_string(),
+        format!("ab--{}", "\u{30FB}".repeat(11)),
+        format!("ab--{}", "\u{30FB}".repeat(12)),
+        format!("ab--{}", "\u{3042}".repeat(11)),
+        format!("ab--{}", "\u{3042}".repeat(12)),
+        format!("ab--{}", "c".repeat(59)),
+        format!("ab--{}", "c".repeat(60)),
+        format!("ab--{}-", "c".repeat(59)),
+    ];
+    for label in labels.iter().map(|label| points(label)) {
+        for least in [0, 3, 6, 65, usize::MAX] {
+            both_ways(file, least, 9, &label);
         }
     }
 }

@@ -1,5 +1,6 @@
-//! The gate's input of `desk`: document 01's example, minus signs, every kind of
-//! bad line, long lines between good ones, many lines, and a last one without LF.
+//! The gate's input of `desk`: document 01's example, minus signs, names that
+//! pretend to be encoded, every kind of bad line, long lines between good ones,
+//! many lines, and a last one without LF.
 
 use super::random::NameMaker;
 use super::{desk::in_utf8, SEED};
@@ -8,11 +9,16 @@ use crate::random::Random;
 const EXAMPLE: &str = "a1\tABC.JP\na2\tab.jp\na3\t\u{3042}.tokyo.jp\n";
 /// The minus sign 2212 inside a label and at either edge.
 const MINUS: &str = "m1\ta\u{2212}b.jp\nm2\t\u{2212}\u{3042}.jp\nm3\t\u{3042}\u{2212}.nara.jp\n";
+/// The hyphen pair in ASCII labels, in other spellings, and in a Japanese label.
+const PAIRS: &str =
+    "p1\txn--l8j.jp\np2\tXN--L8J.TOKYO.JP\np3\tab\u{2212}\u{FF0D}c\u{3002}jp\np4\tab--c.com\n\
+    p5\tab--\u{3042}.jp\np6\ta--b.jp\n";
 const MANY: usize = 10_000;
 
 pub fn input() -> Vec<u8> {
     let mut bytes = EXAMPLE.as_bytes().to_vec();
     bytes.extend(MINUS.bytes());
+    bytes.extend(PAIRS.bytes());
     bytes.extend(bad_lines());
     for length in [1023, 1024, 1025, 70_000] {
         bytes.extend(b"before\tabc.jp\n");

@@ -12,6 +12,7 @@ pub mod lists;
 pub mod names;
 pub mod octets;
 pub mod own;
+pub mod pairs;
 pub mod random;
 pub mod tried;
 
@@ -36,6 +37,12 @@ pub fn probe_line<T: LowerHex>(call: char, lent: usize, numbers: &[T]) -> String
         line += &format!(" {number:x}");
     }
     line
+}
+
+/// The numbers of a probe line.
+pub fn numbers_of(line: &str) -> Vec<u32> {
+    let hex = line.split(' ').skip(2);
+    hex.map(|word| u32::from_str_radix(word, 16).expect("a number")).collect()
 }
 
 impl CaseFile {
@@ -106,6 +113,7 @@ pub fn all_lines() -> Vec<String> {
     tried::add(&mut file);
     coder::add(&mut file);
     names::add(&mut file);
+    pairs::add(&mut file);
     characters::add(&mut file);
     desk::add(&mut file);
     random::add(&mut file);

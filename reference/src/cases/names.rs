@@ -276,7 +276,7 @@ fn japanese_prefecture(file: &mut CaseFile, word: &str) {
 
 /// Texts to which several checks apply: the first is to be given.
 fn order_of_checks(file: &mut CaseFile) {
-    let lefts = ["", "-", "a", "a-", "-aaaaaaaaaaaaaaaa\u{3042}", "\u{30FB}", "-\u{30FB}", "\u{30FB}\u{30FB}\u{30FB}\u{30FB}\u{30FB}\u{30FB}\u{30FB}\u{30FB}\u{30FB}\u{30FB}\u{30FB}\u{30FB}\u{30FB}\u{30FB}\u{30FB}\u{30FB}", "a b", "abc"];
+    let lefts = ["", "-", "a", "a-", "ab--c", "ab--", "-aaaaaaaaaaaaaaaa\u{3042}", "\u{30FB}", "-\u{30FB}", "\u{30FB}\u{30FB}\u{30FB}\u{30FB}\u{30FB}\u{30FB}\u{30FB}\u{30FB}\u{30FB}\u{30FB}\u{30FB}\u{30FB}\u{30FB}\u{30FB}\u{30FB}\u{30FB}", "a b", "abc"];
     let tails = [
         "", ".", "..", ".jp", ".com", ".tokyo", ".tokyo.jp", ".tokio.jp", ".tokio.com", "..jp",
         ".\u{309B}.jp", ".jp.", ".a.b.c", ".tokyo.jp.", ".\u{20}",

@@ -3,12 +3,13 @@
 
 use super::characters::with_jp;
 use super::random::NameMaker;
-use super::{tried, CaseFile, SEED};
+use super::{numbers_of, tried, CaseFile, SEED};
 use crate::chars::kanji_in_rows;
 use crate::name;
 use crate::normal::normal_form;
 use crate::points;
 use crate::random::Random;
+use std::collections::BTreeMap;
 
 pub fn add(file: &mut CaseFile) {
     for text in spread(file) {
@@ -38,20 +39,24 @@ fn judged(file: &mut CaseFile, text: &[u32]) {
 /// Texts of the case file so far, some for each number, the first, the last
 /// and others in even steps between.
 fn spread(file: &CaseFile) -> Vec<Vec<u32>> {
-    let mut texts = vec![Vec::new(); 13];
+    let mut texts = BTreeMap::<u8, Vec<Vec<u32>>>::new();
     for line in file.lines.iter().filter(|line| line.starts_with("C 256")) {
-        let hex = line.split(' ').skip(2);
-        let text: Vec<u32> = hex.map(|word| u32::from_str_radix(word, 16).expect("a number")).collect();
+        let text = numbers_of(line);
         let number = name::check(&text).err().map_or(0, |refusal| refusal.number);
-        texts[usize::from(number)].push(text);
+        texts.entry(number).or_default().push(text);
     }
-    let some = |(number, of_number): (usize, &Vec<Vec<u32>>)| {
-        let wanted = [24, 0, 1, 3][..].get(number).copied().unwrap_or(10);
-        let last = of_number.len().saturating_sub(1);
-        let picks = (0..wanted).map(|order| order * last / wanted.max(2).saturating_sub(1));
+    let some = |(number, of_number): (&u8, &Vec<Vec<u32>>)| {
+        let wanted = match number {
+            0 => 24,
+            2 => 1,
+            3 => 3,
+            _ => 10,
+        };
+        let last = of_number.len() - 1;
+        let picks = (0..wanted).map(|order| order * last / (wanted - 1).max(1));
         picks.map(|pick| of_number[pick].clone()).collect::<Vec<_>>()
     };
-    texts.iter().enumerate().flat_map(some).collect()
+    texts.iter().flat_map(some).collect()
 }
 
 /// Some kanji in labels of fifteen, by every call in turn.
@@ -95,7 +100,8 @@ fn readers(file: &mut CaseFile) {
     let labels = [
         "", "a", "ab", "abc", "ABC", "a.c", "a c", "-", "-ab", "ab-", "a-b", "a--b", "\u{3042}", "\u{3042}-",
         "-\u{3042}", "\u{30FB}", "\u{30FC}", "\u{3006}\u{30FB}", "\u{30FB}\u{3005}", "a\u{30FB}b",
-        "\u{FF71}", "\u{30AB}\u{309B}", "\u{4EDD}", "\u{3094}", "\u{30F7}", "abc\0",
+        "\u{FF71}", "\u{30AB}\u{309B}", "\u{4EDD}", "\u{3094}", "\u{30F7}", "abc\0", "ab--c", "xn--l8j",
+        "ab--", "a---b", "ab--\u{3042}", "ab--\u{30FB}",
     ];
     for label in labels {
         file.add('s', 0, &points(label));

@@ -1,7 +1,7 @@
 //! Random labels, names and edits.
 
 use super::{probe_line, CaseFile, SEED};
-use crate::chars::kanji_in_rows;
+use crate::chars::{kanji_in_rows, HYPHEN};
 use crate::name::{self, japanese_prefectures, latin_prefectures};
 use crate::normal::{compositions, replacements};
 use crate::points;
@@ -96,7 +96,13 @@ impl NameMaker {
             true => japanese_character(random, &self.kanji),
             false => ascii_character(random),
         };
-        (0..length).map(|_| character(random)).collect()
+        let mut label: Vec<u32> = (0..length).map(|_| character(random)).collect();
+        // Now and then two hyphens side by side, mostly where K3 looks for them.
+        let place = *random.pick(&[1, 2, 2, 2, 3]);
+        if random.once_in(6) && place + 2 < length {
+            label[place..place + 2].fill(HYPHEN);
+        }
+        label
     }
 
     /// A name in normal form that is accepted or nearly so.

@@ -42,10 +42,17 @@ pub fn names() -> Vec<Tried> {
     ]
 }
 
-/// Names that K2 decides: 2212 is a hyphen. It is no base and no mark, and it
-/// is not unfit.
+fn refused(text: &str, number: u8, place: usize) -> Tried {
+    row(text, number, place, '-', "")
+}
+
+/// Names that document 02's requests decide.
 pub fn requested() -> Vec<Tried> {
-    let refused = |text: &str, number: u8, place: usize| row(text, number, place, '-', "");
+    [with_minus_sign(), with_hyphen_pair()].concat()
+}
+
+/// K2: 2212 is a hyphen. It is no base and no mark, and it is not unfit.
+fn with_minus_sign() -> Vec<Tried> {
     vec![
         row("a\u{2212}b.jp", 0, 0, 'G', "a-b.jp"),
         row("\u{3042}\u{2212}\u{2212}\u{3042}.jp", 0, 0, 'G', "\u{3042}--\u{3042}.jp"),
@@ -60,6 +67,43 @@ pub fn requested() -> Vec<Tried> {
         refused("abc.j\u{2212}p", 11, 0),
         refused("abc.nara\u{2212}.jp", 12, 0),
         refused("a\u{2213}b.jp", 4, 1),
+    ]
+}
+
+/// K3: an ASCII leftmost label with hyphens in its third and fourth places is
+/// refused, after 9. The places are those of the normal form. A Japanese label
+/// may have the pair, and so may the other labels as far as 17 goes.
+fn with_hyphen_pair() -> Vec<Tried> {
+    let long = |times: usize| format!("01--{}.jp", "a".repeat(times));
+    let taken = |name: &str| row(name, 0, 0, 'G', name);
+    vec![
+        refused("ab--c.jp", 17, 0),
+        refused("xn--l8j.jp", 17, 0),
+        refused("XN--L8J.JP", 17, 0),
+        refused("ab--c.tokyo.jp", 17, 0),
+        refused("ab--c.tokio.jp", 17, 0),
+        refused("ab--c.com", 17, 0),
+        refused("ab\u{2212}\u{FF0D}c.jp", 17, 0),
+        refused("\u{FF21}\u{FF42}\u{FF0D}-\u{FF11}\u{3002}JP", 17, 0),
+        refused("a---b.jp", 17, 0),
+        refused("ab---c.jp", 17, 0),
+        refused(&long(59), 17, 0),
+        refused(&long(60), 9, 0),
+        refused("ab--.jp", 7, 0),
+        refused("-a--b.jp", 7, 0),
+        refused("ab--c..jp", 6, 1),
+        refused("ab--c", 5, 0),
+        refused("ab--c_.jp", 4, 5),
+        refused("ab--\u{30FB}.jp", 10, 0),
+        taken("a--b.jp"),
+        taken("abc--d.jp"),
+        taken("ab-c-d.jp"),
+        taken("abc-d.jp"),
+        taken("ab--\u{3042}.jp"),
+        row("\u{FF8A}\u{FF9E}\u{3042}--\u{3046}.jp", 0, 0, 'G', "\u{30D0}\u{3042}--\u{3046}.jp"),
+        row("\u{3042}b\u{2212}-c.Tokyo.jp", 0, 0, 'P', "\u{3042}b--c.tokyo.jp"),
+        refused("abc.ab--c", 11, 0),
+        refused("abc.ab--c.jp", 12, 0),
     ]
 }
 

@@ -1,4 +1,4 @@
--- `three_labels` meets its contract: the rows 6 to 12 in their order.
+-- `three_labels` meets its contract: the rows 6 to 12 and 17 in their order.
 -- Assumes nothing.
 use mathlib.Core.Path.{sym, ap, _∙_}
 use mathlib.Core.Bool.{not}

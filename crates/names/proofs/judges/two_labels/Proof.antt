@@ -1,4 +1,4 @@
--- `two_labels` meets its contract: the rows 6 to 11 in their order.
+-- `two_labels` meets its contract: the rows 6 to 11 and 17 in their order.
 -- Assumes nothing.
 use mathlib.Core.Path.{refl, sym, _∙_}
 use Rattle.rules.specs.Rules.{classOf}

@@ -1,4 +1,4 @@
--- `usual_name` meets its contract: 7 to 10, then 14; the label's ASCII form is put, and ".jp" after it.
+-- `usual_name` meets its contract: 7 to 10 and 17, then 14; the label's ASCII form is put, and ".jp" after it.
 -- Assumes nothing.
 use native.Mathlib.Omega.{arith}
 use lib.ListN.{length-set}

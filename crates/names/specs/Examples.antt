@@ -1,0 +1,24 @@
+-- A buffer that is too short is refused before what the rules refuse, here nothing and 257 blanks, by computation:
+-- document 01, 'Numbers a call may answer'.
+use mathlib.Core.Path.{_≡_, refl}
+use mathlib.Core.List.{List, [], _∷_, map}
+use Prim.Native.Nat.{ℕ}
+use lib.ListN.{replicate}
+use Rattle.lists.specs.Rows.{Row, first}
+use Rattle.rules.specs.Rules.{frontRows, textRows}
+use Rattle.rules.specs.Editions.{today}
+use Rattle.names.specs.Calls.{checkRows, asciiRows}
+
+-- the number that is given first, for each of the two texts, with so much room and with one less
+abbrev numbers : (List ℕ → ℕ → List Row) → ℕ → ℕ → List ℕ
+numbers rows less room =
+    map (λ (table : List Row). first table .number)
+    (rows [] less ∷ rows [] room ∷ rows (replicate 257 0x20) less ∷ rows (replicate 257 0x20) room ∷ [])
+
+pub check-room-first : numbers (checkRows today) 255 256 ≡ 1 ∷ 2 ∷ 1 ∷ 3 ∷ []
+unfolding checkRows textRows frontRows first
+check-room-first = refl
+
+pub ascii-room-first : numbers (asciiRows today) 191 192 ≡ 1 ∷ 2 ∷ 1 ∷ 3 ∷ []
+unfolding asciiRows textRows frontRows first
+ascii-room-first = refl
