@@ -1,16 +1,16 @@
 -- The first row that applies: found by passing over the rows that do not.
 -- Assumes nothing.
 use mathlib.Core.Path.{_≡_, refl, sym, ap, _∙_}
-use mathlib.Core.Bool.{Bool, true, false, false≢true}
+use mathlib.Core.Bool.{Bool, true, false, not, false≢true}
 use mathlib.Core.List.{List, [], _∷_, _++_}
 use Prim.Native.Nat.{ℕ}
 use native.Mathlib.Omega.{arith}
 use lib.Dec.{eqb, ltb}
-use borrow.Author.Tests.{eqb-true, eqb-false, eq-eqb, ne-eqb, ltb-true}
+use borrow.Author.Tests.{eqb-true, eqb-false, eq-eqb, ne-eqb, ltb-true, not-true}
 use Rattle.lists.specs.Tests.{pick, allOf}
 use Rattle.lists.specs.Rows.{Row, row, accepted, says, first, without, Clear, given}
 use Rattle.lists.specs.declared.Answer.{Answer}
-use Rattle.lists.proofs.Laws.{both}
+use Rattle.lists.proofs.Laws.{both, clash}
 
 -- a row that does not apply is passed over; the first that applies is the answer
 pub passed-over : (n : ℕ) (b : Bool) (p : ℕ) (rs : List Row) → b ≡ false → first (row n b p ∷ rs) ≡ first rs
@@ -68,6 +68,19 @@ refused-before (r ∷ rs) ss n = go (r .applies) n (refused-before rs ss)
         → pick b (says r) (first (rs ++ ss)) ≡ pick b (says r) (first rs)
     go true n on = refl
     go false n on = on n
+
+-- an answer whose number no row of the first table has says that none of these applies
+pub past-table : (n : ℕ) (rs ss : List Row) → allOf (λ (r : Row). not (eqb (r .number) n)) rs ≡ true → first (rs ++ ss) .number ≡ n → Clear rs
+unfolding first allOf
+past-table n [] ss w e = tt
+past-table n (r ∷ rs) ss w e =
+    let k = both (not (eqb (r .number) n)) (allOf (λ (s : Row). not (eqb (s .number) n)) rs) w in
+    go (r .applies) refl e (k .0) (past-table n rs ss (k .1))
+  where
+    go : (b : Bool) → r .applies ≡ b → (pick b (says r) (first (rs ++ ss))) .number ≡ n → not (eqb (r .number) n) ≡ true
+        → (first (rs ++ ss) .number ≡ n → Clear rs) → (r .applies ≡ false) × Clear rs
+    go true p e w on = clash (eq-eqb (r .number) n e) (not-true (eqb (r .number) n) w)
+    go false p e w on = (p, on e)
 
 -- of two tables one gives the answer
 pub of-two : (Q : Answer → Type 0) (rs ss : List Row) → Q (first rs) → Q (first ss) → Q (first (rs ++ ss))

@@ -1,5 +1,5 @@
--- The calls accept exactly what derives from the grammar and does not pretend, from their statements alone: with room the check and the whole ASCII
--- form say what the rules say of the text, since row 1 does not apply and row 14 never does (Coded), and the rules accept exactly that.
+-- The calls accept exactly what derives from the grammar and does not pretend, from their statements alone: with room the check and the whole
+-- ASCII form say what the rules say of the text, since row 1 does not apply and row 14 never does (Coded), and the rules accept exactly that.
 -- Assumes nothing.
 use mathlib.Core.Path.{_≡_, refl, sym, ap, _∙_}
 use mathlib.Core.List.{List}

@@ -1,7 +1,7 @@
 -- A buffer that is too short is refused before what the rules refuse, here nothing and 257 blanks, by computation:
 -- document 01, 'Numbers a call may answer'.
 use mathlib.Core.Path.{_≡_, refl}
-use mathlib.Core.List.{List, [], _∷_, map}
+use mathlib.Core.List.{List, [], _∷_, _++_, map}
 use Prim.Native.Nat.{ℕ}
 use lib.ListN.{replicate}
 use Rattle.lists.specs.Rows.{Row, first}
@@ -9,16 +9,14 @@ use Rattle.rules.specs.Rules.{frontRows, textRows}
 use Rattle.rules.specs.Editions.{today}
 use Rattle.names.specs.Calls.{checkRows, asciiRows}
 
--- the number that is given first, for each of the two texts, with so much room and with one less
+-- the number that is given first, for each of the two texts: with too little room, and with enough
 abbrev numbers : (List ℕ → ℕ → List Row) → ℕ → ℕ → List ℕ
-numbers rows less room =
+numbers rows little enough =
     map (λ (table : List Row). first table .number)
-    (rows [] less ∷ rows [] room ∷ rows (replicate 257 0x20) less ∷ rows (replicate 257 0x20) room ∷ [])
+    (rows [] little ∷ rows [] enough ∷ rows (replicate 257 0x20) little ∷ rows (replicate 257 0x20) enough ∷ [])
 
-pub check-room-first : numbers (checkRows today) 255 256 ≡ 1 ∷ 2 ∷ 1 ∷ 3 ∷ []
-unfolding checkRows textRows frontRows first
-check-room-first = refl
-
-pub ascii-room-first : numbers (asciiRows today) 191 192 ≡ 1 ∷ 2 ∷ 1 ∷ 3 ∷ []
-unfolding asciiRows textRows frontRows first
-ascii-room-first = refl
+-- of the check, and of the whole ASCII form
+pub room-first : numbers (checkRows today) 255 256 ++ numbers (asciiRows today) 191 192
+    ≡ (1 ∷ 2 ∷ 1 ∷ 3 ∷ []) ++ (1 ∷ 2 ∷ 1 ∷ 3 ∷ [])
+unfolding checkRows asciiRows textRows frontRows first
+room-first = refl

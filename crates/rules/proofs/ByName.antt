@@ -4,19 +4,19 @@
 -- Assumes nothing.
 use mathlib.Core.Path.{_≡_, refl, ap, _∙_}
 use mathlib.Core.Bool.{true, false, not, _&&_, _||_}
-use mathlib.Core.List.{List, [], _++_}
+use mathlib.Core.List.{List, [], _∷_, _++_}
 use Prim.Native.Nat.{ℕ, _-_, _≤_}
 use native.Mathlib.Omega.{arith}
 use lib.Dec.{eqb}
 use lib.ListN.{length, getD}
 use borrow.Author.Tests.{eqb-false, ne-eqb, ltb-false, le-ltb, not-false}
 use Rattle.lists.specs.Tests.{allOf, anyOf, same}
-use Rattle.lists.specs.Rows.{Row, first, without, Clear}
-use Rattle.lists.proofs.Tables.{refusing, accepted-clear, split-clear, join-clear, only, part-clear, whole-clear, without-both, first-only, hit}
+use Rattle.lists.specs.Rows.{Row, row, first, without, Clear}
+use Rattle.lists.proofs.Tables.{refusing, accepted-clear, split-clear, join-clear, past-table, only, part-clear, whole-clear, without-both, first-only, hit}
 use Rattle.normal.specs.Normal.{normalForm}
 use Rattle.rules.specs.Labels.{labels}
 use Rattle.rules.specs.Permits.{Permits, middle, isEmpty}
-use Rattle.rules.specs.Rules.{unfit, Asks, ofName, pretends, labelRows, Meets, jp, lastRows, nameRows, frontRows, textRows}
+use Rattle.rules.specs.Rules.{unfit, hyphenEdge, short, long, Asks, ofName, pretends, labelRows, Meets, jp, lastRows, nameRows, frontRows, textRows}
 
 -- one table after another, without 17
 split-but : (rs ss : List Row) → Clear (without 17 (rs ++ ss)) → Clear (without 17 rs) × Clear (without 17 ss)
@@ -94,6 +94,15 @@ module _ (P : Permits) (ls : List (List ℕ)) where
         ap not (N .count),
         (N .filled, join-but (labelRows P ofName l 0) (lastRows P ls) (meets-clear P ofName l 0 (N .left)) (ap not (N .last), (N .mid, tt))),
       )
+
+  -- where 17 is given none of 5 to 9 applies
+  pub past-9 : first (nameRows P ls) .number ≡ 17
+      → (eqb (length ls) 2 || (P .three && eqb (length ls) 3) ≡ true) × (anyOf isEmpty ls ≡ false) × (hyphenEdge (getD ls 0 []) ≡ false)
+      × (short P 3 (getD ls 0 []) ≡ false) × (long P (getD ls 0 []) ≡ false)
+  unfolding nameRows labelRows allOf
+  past-9 e =
+      let c = past-table 17 (row 5 _ _ ∷ row 6 _ _ ∷ row 7 _ _ ∷ row 8 _ _ ∷ row 9 _ _ ∷ []) _ refl e in
+      (not-false _ (c .0), c .1 .0, c .1 .1 .0, c .1 .1 .1 .0, c .1 .1 .1 .1 .0)
 
 module _ (P : Permits) (text : List ℕ) where
   pub clear-front : Clear (frontRows P text) → FrontPassed P text

@@ -14,20 +14,21 @@ use borrow.Author.Tests.{eqb-true}
 use Rattle.lists.specs.Tests.{pick, allOf}
 use Rattle.lists.specs.Rows.{Row, first, without, Clear}
 use Rattle.lists.specs.declared.Answer.{Answer}
-use Rattle.lists.proofs.Tables.{clear, hit, of-rows, only, first-only, first-without, never-given}
+use Rattle.lists.proofs.Tables.{clear, clear-before, past-table, hit, of-rows, only, first-only, first-without, never-given}
 use Rattle.normal.proofs.Laws.{not-twice}
 use Rattle.normal.specs.Normal.{normalForm, normalPlaced, replacedFrom, compose}
 use Rattle.rules.specs.Labels.{labels}
 use Rattle.rules.specs.Permits.{Permits, Laws}
-use Rattle.rules.specs.Rules.{isJapanese, ofName, pretends, labelRows, nameRows, frontRows, textRows, classOf, verdict, rules, rulesBut, accepted, refused, Formed}
+use Rattle.rules.specs.Rules.{isJapanese, hyphenEdge, short, long, ofName, pretends, labelRows, nameRows, frontRows, textRows, classOf, verdict, rules, rulesBut, accepted, refused, Formed}
 use Rattle.rules.specs.Grammar.{Derives}
 use Rattle.rules.specs.Pretends.{PAIR, PRETENDS, Admitted, Granted}
 use Rattle.rules.specs.declared.Class.{Class}
 use Rattle.rules.specs.declared.Class.the-variants.{None, General, Prefecture}
 use Rattle.rules.specs.declared.Verdict.{Verdict}
-use Rattle.rules.proofs.ByName.{FrontPassed, clear-but, but-clear, clear-text, text-clear, text-cleared, but-cleared}
+use Rattle.rules.proofs.ByName.{past-9, clear-front, FrontPassed, clear-but, but-clear, clear-text, text-clear, text-cleared, but-cleared}
 use Rattle.rules.proofs.Cuts.{join-labels, labels-fit}
 use Rattle.rules.proofs.Derived.{passed-derives, named}
+use Rattle.rules.proofs.Minus.{Reached}
 use Rattle.rules.proofs.Pretends.{pretends-pair, left-pretends, honest-name, honest-left}
 
 -- ---- what is answered, by a table whose answer 0 says that no row applies
@@ -118,6 +119,15 @@ module _ (P : Permits) (text : List ℕ) where
     pub only-17 : (rules P text ≡ refused 17 0) × (isJapanese P left ≡ false) × PAIR left
     unfolding rules verdict
     only-17 = (rw (given-17, at-0), left-pair .0, left-pair .1)
+
+    -- and none of 2 to 9 applies then
+    pub after-9 : Reached P text × (hyphenEdge left ≡ false) × (short P 3 left ≡ false) × (long P left ≡ false)
+    unfolding textRows frontRows allOf
+    after-9 =
+        let ls = labels (normalForm text) in
+        let f = past-table 17 (frontRows P text) (nameRows P ls) refl given-17 in
+        let c = past-9 P ls (sym (ap (λ (a : Answer). a .number) (clear-before (frontRows P text) (nameRows P ls) f)) ∙ given-17) in
+        (record { front = clear-front P text f; count = c .0; filled = c .1 }, c .2, c .3, c .4)
 
 -- no text is accepted as both
 pub not-both : (P : Permits) (text : List ℕ) → rules P text ≡ accepted General → rules P text ≡ accepted Prefecture → ⊥

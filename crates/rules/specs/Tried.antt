@@ -115,6 +115,10 @@ table =
     -- abc.ab--c; abc.ab--c.jp: it is asked of the leftmost label alone
     refuses (0x61 ∷ 0x62 ∷ 0x63 ∷ 0x2E ∷ paired (0x63 ∷ [])) 11 0 ∷
     refuses (0x61 ∷ 0x62 ∷ 0x63 ∷ 0x2E ∷ paired (0x63 ∷ dotJp)) 12 0 ∷
+    -- ab--c; ab--c..jp; ab--c, a blank and .jp: what is asked before 9 is asked of such a name first
+    refuses (paired (0x63 ∷ [])) 5 0 ∷
+    refuses (paired (0x63 ∷ 0x2E ∷ dotJp)) 6 1 ∷
+    refuses (paired (0x63 ∷ 0x20 ∷ dotJp)) 4 5 ∷
     -- The order of the rows. Of any two these part them, or they never apply together: 2 with 3 or 4, 8 with 9, 17 or
     -- 10, and 17 with 10. Nothing; 257 blanks; a blank; a..b.jp; -a.
     before [] 2 0 5 0 ∷
