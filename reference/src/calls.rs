@@ -4,6 +4,7 @@
 use crate::answer::{Answer, Class, Refusal};
 use crate::batch;
 use crate::coder;
+use crate::host;
 use crate::name;
 use crate::normal;
 use crate::utf8;
@@ -44,6 +45,14 @@ pub fn ascii_form(text: &[u32], buffer: &mut [u8]) -> Answer {
         let (form, class) = name::ascii_form(text)?;
         Ok((form.into_bytes(), Some(class)))
     })
+}
+
+pub fn host_form(text: &[u32], buffer: &mut [u8]) -> Answer {
+    lend(buffer, 255, || Ok((host::ascii_form(text)?.into_bytes(), None)))
+}
+
+pub fn label_form(label: &[u32], buffer: &mut [u8]) -> Answer {
+    lend(buffer, 63, || Ok((coder::ascii_label(label)?.into_bytes(), None)))
 }
 
 pub fn encode_label(label: &[u32], buffer: &mut [u8]) -> Answer {

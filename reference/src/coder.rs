@@ -197,6 +197,19 @@ pub fn encode(label: &[u32]) -> Result<String, Refusal> {
     Ok(encoded)
 }
 
+/// The ASCII form of one label, whatever it holds: the coder's where some code
+/// point is 80 or more, and else the label itself, with 14 where it has more
+/// than 63 characters.
+pub fn ascii_label(label: &[u32]) -> Result<String, Refusal> {
+    if label.iter().any(|code| *code >= 0x80) {
+        return encode(label);
+    }
+    if label.len() > LONGEST_LABEL {
+        return Err(Refusal::plain(14));
+    }
+    Ok(label.iter().filter_map(|code| char::from_u32(*code)).collect())
+}
+
 /// The decoder, given room: refusal 15. What it found must encode back to the
 /// very octets it read, in lower case.
 pub fn decode(octets: &[u8]) -> Result<Vec<u32>, Refusal> {

@@ -1,9 +1,10 @@
 //! How often each number comes up in the answers to probe lines.
 
-pub const NUMBERS: usize = 18;
+/// 18 is a number that no call answers yet.
+pub const NUMBERS: usize = 20;
 
 /// The calls whose answer begins with a number.
-const NUMBERED: &str = "NCcAaEDLlJjQ";
+const NUMBERED: &str = "NCcAaEDLlJjQHhGgVvXR";
 
 /// The numbers in the answer to a case. Most calls answer one; a batch answers
 /// one a line, in octets; the others answer none.
@@ -24,7 +25,7 @@ fn numbers_in_batch(fields: &[&str]) -> Vec<usize> {
     output.lines().filter_map(second).collect()
 }
 
-/// The counts of numbers 0 to 17, of cases and their answers.
+/// The counts of numbers 0 to 19, of cases and their answers.
 pub fn count<'a>(answered: impl Iterator<Item = (&'a str, &'a str)>) -> [usize; NUMBERS] {
     let mut counts = [0; NUMBERS];
     for number in answered.flat_map(|(case, answer)| numbers_in(case, answer)) {

@@ -3,6 +3,7 @@
 
 use crate::answer::Class;
 use crate::chars::{is_japanese, is_letter_or_digit, HYPHEN, MIDDLE_DOT};
+use crate::coder::encode_by_insertion;
 use crate::name::is_prefecture_label;
 use crate::normal::labels;
 use crate::points;
@@ -135,6 +136,30 @@ pub fn is_label(label: &[u32]) -> bool {
     let spelled = spell(label);
     let ja = is_ja_label(&spelled) && spelled.len() <= 15 && !is_exception_string(&spelled);
     is_ascii_label(&spelled) || ja
+}
+
+/// A label of a host (K10): a label of 004, or one or two ALNUM, which 004 has
+/// not; and none that has hyphens in its third and fourth places.
+pub fn is_host_label(label: &[u32]) -> bool {
+    let spelled = spell(label);
+    let short = ["a", "aa"].contains(&spelled.as_str());
+    (short || is_label(label)) && spelled.get(2..4) != Some("--")
+}
+
+/// A host in normal form: three such labels or more whose ASCII forms, joined
+/// by periods, have at most 253 octets.
+pub fn is_host(normal: &[u32]) -> bool {
+    let parts = labels(normal);
+    parts.len() >= 3 && parts.iter().all(|label| is_host_label(label)) && host_octets(&parts) <= 253
+}
+
+/// How many octets the joined ASCII form of some labels has.
+pub fn host_octets(parts: &[Vec<u32>]) -> usize {
+    let octets = |label: &Vec<u32>| match label.iter().any(|code| is_japanese(*code)) {
+        true => "xn--".len() + encode_by_insertion(label).len(),
+        false => label.len(),
+    };
+    parts.iter().map(octets).sum::<usize>() + parts.len() - 1
 }
 
 /// The class of a normal form by the grammar, or none.

@@ -11,6 +11,7 @@ pub mod coder;
 pub mod count;
 pub mod grammar;
 pub mod hope;
+pub mod host;
 pub mod live;
 pub mod name;
 pub mod normal;

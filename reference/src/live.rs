@@ -1,9 +1,11 @@
 //! The live check: it shows, after each code point, what the check says of
-//! all that was read, and the normal form of it. It also says whether that may
-//! yet become a name.
+//! all that was read, and the normal form of it. A look at a host shows what the
+//! rules of hosts say instead. It also says whether what was read may yet become
+//! a name.
 
-use crate::answer::Class;
+use crate::answer::{Class, Refusal};
 use crate::hope;
+use crate::host;
 use crate::name::{self, LONGEST_TEXT};
 use crate::normal::normal_form;
 
@@ -34,9 +36,19 @@ impl Live {
         }
     }
 
+    /// What the check says.
     pub fn look(&self) -> Shown {
-        let (number, place, class) = match name::check(&self.read) {
-            Ok(accepted) => (0, 0, Some(accepted.class)),
+        self.show(name::check(&self.read).map(|accepted| Some(accepted.class)))
+    }
+
+    /// What the rules of hosts say, given room. Hosts have no class.
+    pub fn look_at_host(&self) -> Shown {
+        self.show(host::ascii_form(&self.read).map(|_form| None))
+    }
+
+    fn show(&self, judged: Result<Option<Class>, Refusal>) -> Shown {
+        let (number, place, class) = match judged {
+            Ok(class) => (0, 0, class),
             Err(refusal) => (refusal.number, refusal.place, None),
         };
         let normal = match self.read.len() > LONGEST_TEXT {

@@ -3,7 +3,7 @@
 use crate::answer::{Class, Refusal};
 use crate::chars::{is_ascii_set, is_japanese, HYPHEN, MIDDLE_DOT, PERIOD};
 use crate::coder;
-use crate::normal::{labels, placed_normal_form};
+use crate::normal::{labels, normal_form, placed_normal_form};
 use crate::points;
 use std::collections::HashSet;
 use std::sync::OnceLock;
@@ -99,6 +99,30 @@ pub fn first_unfit(normal: &[u32]) -> usize {
     normal.iter().position(|code| !is_permitted(*code)).unwrap_or(normal.len())
 }
 
+/// The place in a text of the first character of its normal form that is not
+/// permitted.
+pub fn unfit_place(text: &[u32]) -> Option<usize> {
+    placed_normal_form(text).iter().find(|c| !is_permitted(c.code)).map(|c| c.place)
+}
+
+/// The normal form of a text, after refusals 2 to 4, which are asked of every
+/// text first.
+pub fn read(text: &[u32]) -> Result<Vec<u32>, Refusal> {
+    check_length(text)?;
+    match unfit_place(text) {
+        Some(place) => Err(Refusal::at(4, place)),
+        None => Ok(normal_form(text)),
+    }
+}
+
+/// Refusal 6.
+pub fn check_empty(labels: &[Vec<u32>]) -> Result<(), Refusal> {
+    match labels.iter().position(Vec::is_empty) {
+        Some(empty) => Err(Refusal::at(6, empty)),
+        None => Ok(()),
+    }
+}
+
 /// Where the label ends that is read from an index on. Past the text's end
 /// there is nothing to read, so it ends where it begins.
 pub fn label_end(normal: &[u32], from: usize) -> usize {
@@ -164,19 +188,12 @@ pub fn check_leftmost(label: &[u32]) -> Result<(), Refusal> {
 
 /// The whole check, given room: refusals 2 to 12, and 17 after 9.
 pub fn check(text: &[u32]) -> Result<Accepted, Refusal> {
-    check_length(text)?;
-    let placed = placed_normal_form(text);
-    if let Some(unfit) = placed.iter().find(|c| !is_permitted(c.code)) {
-        return Err(Refusal::at(4, unfit.place));
-    }
-    let normal: Vec<u32> = placed.iter().map(|c| c.code).collect();
+    let normal = read(text)?;
     let labels = labels(&normal);
     if !(2..=3).contains(&labels.len()) {
         return Err(Refusal::plain(5));
     }
-    if let Some(empty) = labels.iter().position(Vec::is_empty) {
-        return Err(Refusal::at(6, empty));
-    }
+    check_empty(&labels)?;
     check_leftmost(&labels[0])?;
     if !labels.last().is_some_and(|last| is_jp(last)) {
         return Err(Refusal::plain(11));
@@ -189,16 +206,19 @@ pub fn check(text: &[u32]) -> Result<Accepted, Refusal> {
     Ok(Accepted { normal, labels, class })
 }
 
+/// A label as it stands in the ASCII form: a Japanese one is encoded, an ASCII
+/// one left as it is.
+pub fn label_form(label: &[u32]) -> Result<String, Refusal> {
+    match is_japanese_label(label) {
+        true => coder::encode(label),
+        false => Ok(label.iter().filter_map(|c| char::from_u32(*c)).collect()),
+    }
+}
+
 /// The whole ASCII form, given room: the check's refusals, then 14.
 pub fn ascii_form(text: &[u32]) -> Result<(String, Class), Refusal> {
     let accepted = check(text)?;
-    let mut parts = Vec::new();
-    for label in &accepted.labels {
-        parts.push(if is_japanese_label(label) {
-            coder::encode(label)?
-        } else {
-            label.iter().filter_map(|c| char::from_u32(*c)).collect()
-        });
-    }
+    let parts: Vec<String> =
+        accepted.labels.iter().map(|label| label_form(label)).collect::<Result<_, _>>()?;
     Ok((parts.join("."), accepted.class))
 }

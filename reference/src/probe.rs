@@ -7,7 +7,7 @@ use crate::calls;
 use crate::chars;
 use crate::grammar;
 use crate::hope;
-use crate::live::Live;
+use crate::live::{Live, Shown};
 use crate::name::{self, Family};
 use crate::normal;
 use std::fmt::LowerHex;
@@ -46,8 +46,12 @@ fn on_numbers(call: &str, lent: usize, numbers: &[u32]) -> Option<String> {
         "C" | "c" => in_points(lent, |buffer| classed(calls::check(numbers, buffer))),
         "A" | "a" => in_octets(lent, |buffer| classed(calls::ascii_form(numbers, buffer))),
         "E" => in_octets(lent, |buffer| plain(calls::encode_label(numbers, buffer))),
+        "H" | "h" => in_octets(lent, |buffer| plain(calls::host_form(numbers, buffer))),
+        "X" => in_octets(lent, |buffer| plain(calls::label_form(numbers, buffer))),
+        "R" => in_points(lent, |buffer| asked_first(numbers, buffer)),
         "S" | "s" => flag(grammar::second_reader(numbers)).to_string(),
         "L" | "l" | "J" | "j" => live(numbers),
+        "V" | "v" | "G" | "g" => live_host(numbers),
         "M" => hopes(numbers),
         "P" => words((0..=lent).map(|entry| normal::place_of(numbers, entry))),
         "K" => characters(numbers),
@@ -131,21 +135,44 @@ fn run<T: Copy + PartialEq + LowerHex>(before: Vec<T>, call: impl FnOnce(&mut [T
     out
 }
 
-/// What the live check shows after the last code point. The judge says the
-/// same of the whole text.
-fn live(numbers: &[u32]) -> String {
+/// The state of the live check after these code points.
+fn stepped(numbers: &[u32]) -> Live {
     let mut state = Live::fresh();
     for code in numbers {
         state.step(*code);
     }
-    let shown = state.look();
-    let end = shown.text.iter().rposition(|code| *code != 0).map_or(0, |last| last + 1);
-    let class = Class::letter(shown.class);
-    let head = format!("{} {} {class} {}", shown.number, shown.place, shown.length);
-    match end {
-        0 => head,
-        _ => format!("{head} {}", hex_list(&shown.text[..end])),
+    state
+}
+
+/// The beginning of an answer and the shown entries up to the last that is not
+/// zero.
+fn with_text(head: String, shown: &Shown) -> String {
+    match shown.text.iter().rposition(|code| *code != 0) {
+        Some(last) => format!("{head} {}", hex_list(&shown.text[..=last])),
+        None => head,
     }
+}
+
+/// What the live check shows after the last code point. The judge says the
+/// same of the whole text.
+fn live(numbers: &[u32]) -> String {
+    let shown = stepped(numbers).look();
+    let class = Class::letter(shown.class);
+    with_text(format!("{} {} {class} {}", shown.number, shown.place, shown.length), &shown)
+}
+
+/// The same of a host, which has no class.
+fn live_host(numbers: &[u32]) -> String {
+    let shown = stepped(numbers).look_at_host();
+    with_text(format!("{} {} {}", shown.number, shown.place, shown.length), &shown)
+}
+
+/// The normal form's answer; then whether it holds an unfit character, and the
+/// place of the first in the text. Of a text that is refused neither is told.
+fn asked_first(numbers: &[u32], buffer: &mut [u32]) -> String {
+    let answer = calls::normal_form(numbers, buffer);
+    let unfit = name::unfit_place(numbers).filter(|_place| answer.number == 0);
+    format!("{} {} {}", plain(answer), flag(unfit.is_some()), unfit.unwrap_or(0))
 }
 
 /// A flag for every state of the live check, then those of the three ways to

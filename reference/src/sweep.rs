@@ -1,14 +1,16 @@
 //! The big sweeps outside the gate, as probe lines.
 
 use crate::cases::characters::{with_jp, MARKS};
+use crate::cases::hosts::HostMaker;
 use crate::cases::kinds::IN_A_CASE;
 use crate::cases::labels;
 use crate::cases::probe_line;
 use crate::cases::random::NameMaker;
+use crate::chars::PERIOD;
 use crate::points;
 use crate::random::Random;
 
-pub const PARTS: [&str; 7] = ["first", "second", "above", "marks", "kinds", "pairs", "random"];
+pub const PARTS: [&str; 8] = ["first", "second", "above", "marks", "kinds", "pairs", "hosts", "random"];
 
 /// The bases after which the second character is tried.
 const BASES: [u32; 2] = [0x30CF, 0x3046];
@@ -22,6 +24,9 @@ pub fn lines(part: &str) -> Option<Box<dyn Iterator<Item = String>>> {
         "marks" => Box::new((0..0x10000).flat_map(marked)),
         "kinds" => Box::new(kinds()),
         "pairs" => Box::new(short_labels().into_iter().flat_map(|label| paired(&label))),
+        "hosts" => {
+            Box::new(short_hosts().into_iter().flat_map(|host| judged_host(&host)).chain(random_hosts()))
+        }
         "random" => Box::new(random()),
         _ => return None,
     })
@@ -83,21 +88,23 @@ fn kinds() -> impl Iterator<Item = String> {
     lines.into_iter()
 }
 
+/// All texts of up to so many characters from a few.
+fn all_of(characters: &str, longest: usize) -> Vec<Vec<u32>> {
+    let longer = |text: &Vec<u32>| {
+        points(characters).into_iter().map(|code| [&text[..], &[code]].concat()).collect::<Vec<_>>()
+    };
+    let mut texts = vec![Vec::new()];
+    let mut of_length = texts.clone();
+    for _ in 0..longest {
+        of_length = of_length.iter().flat_map(longer).collect();
+        texts.extend(of_length.clone());
+    }
+    texts
+}
+
 /// All labels of up to six characters from five.
 fn short_labels() -> Vec<Vec<u32>> {
-    let longer = |label: &Vec<u32>| {
-        points("a0-\u{3042}\u{30FB}")
-            .into_iter()
-            .map(|code| [&label[..], &[code]].concat())
-            .collect::<Vec<_>>()
-    };
-    let mut labels = vec![Vec::new()];
-    let mut of_length = labels.clone();
-    for _ in 0..6 {
-        of_length = of_length.iter().flat_map(longer).collect();
-        labels.extend(of_length.clone());
-    }
-    labels
+    all_of("a0-\u{3042}\u{30FB}", 6)
 }
 
 /// A label as the leftmost one, and by itself with the hyphen pair refused in
@@ -114,6 +121,37 @@ fn paired(label: &[u32]) -> Vec<String> {
         probe_line('Q', 0, &numbers),
         probe_line('Q', 1, &numbers),
     ]
+}
+
+/// All texts of up to seven characters from five that have two periods or more;
+/// and each of the labels above, as the first of three, the second or the last.
+fn short_hosts() -> Vec<Vec<u32>> {
+    let mut hosts = all_of("a-\u{3042}\u{30FB}.", 7);
+    hosts.retain(|text| text.iter().filter(|code| **code == PERIOD).count() > 1);
+    for (order, label) in short_labels().into_iter().enumerate() {
+        let mut labels = [points("b"), points("\u{3044}"), points("c")];
+        labels[order % 3] = label;
+        hosts.push(labels.join(&PERIOD));
+    }
+    hosts
+}
+
+fn judged_host(text: &[u32]) -> [String; 2] {
+    [probe_line('H', 255, text), probe_line('G', 0, text)]
+}
+
+/// Random hosts as typed, each followed by a damaged copy.
+fn random_hosts() -> impl Iterator<Item = String> {
+    let mut random = Random::seeded(19);
+    let maker = HostMaker::default();
+    (0..10_000).flat_map(move |_| {
+        let typed = maker.typed_host(&mut random);
+        let damaged = maker.damaged(&typed, &mut random);
+        [typed, damaged]
+            .iter()
+            .flat_map(|text| [probe_line('V', 0, text)].into_iter().chain(judged_host(text)))
+            .collect::<Vec<_>>()
+    })
 }
 
 /// Random names as typed, each followed by a damaged copy.

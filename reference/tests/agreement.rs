@@ -1,10 +1,11 @@
 //! Two routes to the same answer, held against each other.
 
-use reference::answer::Refusal;
+use reference::answer::{Class, Refusal};
+use reference::cases::hosts::HostMaker;
 use reference::cases::random::{accepted_lines, any_label, NameMaker};
 use reference::live::Live;
 use reference::random::Random;
-use reference::{cases, chars, coder, grammar, hope, name, normal, utf8};
+use reference::{cases, chars, coder, grammar, hope, host, name, normal, utf8};
 
 /// The numbers of every case of the calls given.
 fn cases_of(calls: &str) -> Vec<Vec<u32>> {
@@ -207,5 +208,138 @@ fn a_minus_sign_is_judged_as_a_hyphen() {
         assert_eq!(hope::may_become(&text), hope::may_become(&hyphened), "{text:x?}");
         let at_4 = judged(&text).err().filter(|no| no.0 == 4).map(|no| text[no.1]);
         assert_ne!(at_4, Some(0x2212), "{text:x?}");
+    }
+}
+
+/// Random hosts, damaged ones, and the hosts and names of the cases.
+fn hosts(count: usize, seed: u64) -> Vec<Vec<u32>> {
+    let mut random = Random::seeded(seed);
+    let maker = HostMaker::default();
+    let mut texts = cases_of("HhGgVvRNCAL");
+    for _ in 0..count {
+        let typed = maker.typed_host(&mut random);
+        texts.push(maker.damaged(&typed, &mut random));
+        texts.push(typed);
+    }
+    texts
+}
+
+/// A label is good by the rules of hosts where the grammar of hosts has it.
+#[test]
+fn rules_of_hosts_accept_the_labels_of_their_grammar() {
+    let kinds = [0x61, 0x2D, 0x30FB, 0x30FC, 0x3042, 0x20];
+    let fits = |label: &Vec<u32>| !label.is_empty() && label.iter().all(|code| name::may_be_in_label(*code));
+    let agree = |label: &Vec<u32>| {
+        let good = fits(label) && name::check_label(label, host::OF_HOSTS, 0).is_ok();
+        assert_eq!(good, grammar::is_host_label(label), "{label:x?}");
+    };
+    let mut labels = vec![vec![]];
+    for _ in 0..7 {
+        labels.iter().for_each(agree);
+        labels = labels.iter().flat_map(|label| kinds.map(|kind| [&label[..], &[kind]].concat())).collect();
+    }
+    for text in hosts(5_000, 8) {
+        normal::labels(&normal::normal_form(&text)).iter().for_each(agree);
+    }
+}
+
+/// A text is accepted as a host where it has at most 256 code points and the
+/// grammar of hosts derives its normal form. The form then has the octets that
+/// the grammar counts, and its labels, decoded, are those of the normal form.
+#[test]
+fn rules_accept_the_hosts_that_the_grammar_derives() {
+    let (mut accepted, mut too_long) = (0, 0);
+    for text in hosts(20_000, 9) {
+        let normal = normal::normal_form(&text);
+        let form = host::ascii_form(&text);
+        assert_eq!(form.is_ok(), text.len() <= 256 && grammar::is_host(&normal), "{text:x?}");
+        too_long += usize::from(form == Err(Refusal::plain(19)));
+        let Ok(form) = form else { continue };
+        let labels = normal::labels(&normal);
+        assert_eq!(form.len(), grammar::host_octets(&labels));
+        let back = form.split('.').map(|part| match part.strip_prefix("xn--") {
+            Some(_) => coder::decode(part.as_bytes()).unwrap(),
+            None => reference::points(part),
+        });
+        assert_eq!(back.collect::<Vec<_>>(), labels);
+        accepted += 1;
+    }
+    assert!(accepted > 15_000 && too_long > 200, "{accepted} accepted, {too_long} too long");
+}
+
+/// The form of one label, whatever it holds, is the one that names and hosts
+/// have of it, and the coder's where it has a form.
+#[test]
+fn the_form_of_one_label_is_that_of_names_and_of_the_coder() {
+    for label in hosts(2_000, 11).iter().flat_map(|text| normal::labels(&normal::normal_form(text))) {
+        if label.iter().all(|code| name::may_be_in_label(*code)) && label.len() <= 63 {
+            assert_eq!(coder::ascii_label(&label), name::label_form(&label), "{label:x?}");
+        }
+    }
+    for label in cases_of("EX") {
+        match label.iter().any(|code| *code >= 0x80) {
+            true => assert_eq!(coder::ascii_label(&label), coder::encode(&label)),
+            false => assert_eq!(coder::ascii_label(&label).is_ok(), label.len() <= 63),
+        }
+    }
+}
+
+/// A prefecture name is a host with the same ASCII form, but for the pair in a
+/// Japanese label; a general-use name has two labels and is none.
+#[test]
+fn prefecture_names_are_hosts() {
+    let (mut same, mut paired) = (0, 0);
+    for line in accepted_lines(6_000, 23) {
+        let text = cases::numbers_of(&line);
+        let (form, class) = name::ascii_form(&text).unwrap();
+        let leftmost = normal::labels(&normal::normal_form(&text)).swap_remove(0);
+        let expected = match class {
+            Class::GeneralUse => Err(Refusal::plain(5)),
+            Class::Prefecture if leftmost.get(2..4) == Some(&[0x2D, 0x2D]) => Err(Refusal::plain(17)),
+            Class::Prefecture => Ok(form),
+        };
+        same += usize::from(expected.is_ok());
+        paired += usize::from(expected == Err(Refusal::plain(17)));
+        assert_eq!(host::ascii_form(&text), expected, "{text:x?}");
+    }
+    assert!(same > 1_000 && paired > 20, "{same} the same, {paired} with the pair");
+}
+
+/// A look at a host shows the number and place of the rules of hosts, no class,
+/// and the text that a look at a name shows.
+#[test]
+fn live_check_shows_the_rules_of_hosts_on_every_beginning() {
+    let mut random = Random::seeded(12);
+    let maker = HostMaker::default();
+    for round in 0..300 {
+        let mut live = Live::fresh();
+        let mut text = maker.typed_host(&mut random);
+        while round % 30 == 0 && text.len() < 270 {
+            text.push(chars::PERIOD);
+            text.extend(maker.typed_host(&mut random));
+        }
+        for end in 0..=text.len() {
+            let (shown, as_name) = (live.look_at_host(), live.look());
+            let judged = host::ascii_form(&text[..end]).err().map_or((0, 0), |no| (no.number, no.place));
+            assert_eq!((shown.number, shown.place, shown.class), (judged.0, judged.1, None));
+            assert_eq!((shown.length, shown.text), (as_name.length, as_name.text));
+            text.get(end).into_iter().for_each(|code| live.step(*code));
+        }
+    }
+}
+
+/// What is asked first is asked alike of names and of hosts, and is what the
+/// normal form's call and refusal 4 say.
+#[test]
+fn names_and_hosts_ask_the_same_first() {
+    for text in hosts(2_000, 13) {
+        let early = |no: &Refusal| no.number <= 4;
+        let of_host = host::ascii_form(&text).err().filter(early);
+        assert_eq!(of_host, name::check(&text).err().filter(early), "{text:x?}");
+        let first = name::check_length(&text).err();
+        let unfit = name::unfit_place(&text).map(|place| Refusal::at(4, place));
+        assert_eq!(of_host, first.or(unfit), "{text:x?}");
+        let normal = normal::normal_form(&text);
+        assert_eq!(unfit.is_some(), name::first_unfit(&normal) < normal.len(), "{text:x?}");
     }
 }

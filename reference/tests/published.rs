@@ -3,8 +3,8 @@
 
 use reference::answer::Class;
 use reference::cases::coder::SAMPLES;
-use reference::cases::tried;
-use reference::{batch, chars, coder, name, normal, points, probe};
+use reference::cases::{hosts, tried};
+use reference::{batch, chars, coder, host, name, normal, points, probe};
 
 #[test]
 fn characters_are_as_many_as_document_01_says() {
@@ -79,6 +79,17 @@ fn tried_names_of_document_01_and_requested_ones_of_document_02() {
     }
     assert_eq!(coder::encode(&[0x3042]).unwrap(), "xn--l8j");
     assert_eq!(coder::encode(&[0x3042; 63]).unwrap_err().number, 14);
+}
+
+#[test]
+fn tried_hosts_of_document_02() {
+    for (text, number, place, form) in hosts::tried() {
+        let found = match host::ascii_form(&points(&text)) {
+            Ok(form) => (0, 0, form),
+            Err(refusal) => (refusal.number, refusal.place, String::new()),
+        };
+        assert_eq!(found, (number, place, form), "{text}");
+    }
 }
 
 #[test]
@@ -170,6 +181,28 @@ fn probe_lines_are_answered_in_the_fixed_format() {
         ("Q 0 0 0 0 3 0 2 61 62 2d 2d 30fb", "10 2 5 5 1 10 2 17 2 0000 10 10 10 10 10"),
         ("Q 1 0 0 0 3 0 2 61 62 2d 2d 30fb", "17 2 5 5 1 17 2 17 2 0000 10 10 10 10 10"),
         ("Q 300 0 0 0 6 0 2 61 62 2d 2d 63", "8 2 5 5 0 17 2 8 2 0000 10 10 10 10 10"),
+        ("H 255 4e 53 2e 3042 3002 61", "0 0 12 6e 73 2e 78 6e 2d 2d 6c 38 6a 2e 61"),
+        ("H 254 61 2e 62 2e 63", "1 0 0"),
+        ("H 255 61 2e 62 2e 63 2e", "6 3 0"),
+        ("H 256 61 2e 62 2e 63", "0 0 5 61 2e 62 2e 63"),
+        ("h 255 61 2e 62", "5 0 0"),
+        ("G 0 61 2e 2212 2e ff76 ff9e", "7 1 5 61 2e 2d 2e 30ac"),
+        ("V 0 61 2e 2212 2e ff76 ff9e", "7 1 5 61 2e 2d 2e 30ac"),
+        ("G 300", "2 0 0"),
+        ("g 0 61 2e 62 2e 63 2e", "6 3 6 61 2e 62 2e 63 2e"),
+        ("V 0 0 2e 61 2e 0", "4 0 5 0 2e 61 2e"),
+        ("V 0 61 2e 62 2e 61 62 2d 2d 3042", "17 2 9 61 2e 62 2e 61 62 2d 2d 3042"),
+        ("v 0 31 2e 32 2e 33 2e 34", "0 0 7 31 2e 32 2e 33 2e 34"),
+        ("X 63 61 42 20", "0 0 3 61 42 20"),
+        ("X 63 3042", "0 0 7 78 6e 2d 2d 6c 38 6a"),
+        ("X 63 3042 42", "13 0 0"),
+        ("X 63", "0 0 0"),
+        ("X 62", "1 0 0"),
+        ("R 256 ff76 ff9e 20 41", "0 0 3 1 2 30ac 20 61"),
+        ("R 256 61 62", "0 0 2 0 0 61 62"),
+        ("R 256 20", "0 0 1 1 0 20"),
+        ("R 256", "2 0 0 0 0"),
+        ("R 255 20", "1 0 0 0 0"),
         ("U 1 61 e3 81 82", "1 2 61"),
         ("U 9 61 e3 81", "0 0"),
         ("F 2 61 9 62", "1 2 3 3 0 1 2 2 3 3 0"),
@@ -186,11 +219,12 @@ fn probe_lines_are_answered_in_the_fixed_format() {
 
 #[test]
 fn malformed_probe_lines_are_answered_by_a_question_mark() {
-    let lines = "X 0|x 0|n 256|b 0|N||N 301|P 301|N 256 GG|D 63 100|U 9 100|F 0 100|W 256 100|Q 0|Q 0 0 0 0 3 0|N 256 061|N 256  61|N 256 1aaaaaaaa|N 256 61 |N +1|N 256 +61";
+    let lines = "Z 0|x 0|r 256|H 301 61|n 256|b 0|N||N 301|P 301|N 256 GG|D 63 100|U 9 100|F 0 100|W 256 100|Q 0|Q 0 0 0 0 3 0|N 256 061|N 256  61|N 256 1aaaaaaaa|N 256 61 |N +1|N 256 +61";
     for line in lines.split('|') {
         assert_eq!(probe::answer(line.as_bytes()), "?", "{line}");
     }
     let long = |points: usize| format!("L 0{}", " 61".repeat(points));
     assert_eq!(probe::answer(long(257).as_bytes()), "3 256 - 0");
+    assert_eq!(probe::answer(long(257).replace('L', "G").as_bytes()), "3 256 0");
     assert_eq!(probe::answer(long(1400).as_bytes()), "?");
 }

@@ -1,9 +1,13 @@
 //! Document 01's table with K3's row, each row by itself. The check gives the
-//! first that applies. With a row left out one sees what the row changed.
+//! first that applies. With a row left out one sees what the row changed. The
+//! rows of hosts (K10) stand beside them.
 
+use reference::cases::hosts::HostMaker;
 use reference::cases::random::NameMaker;
 use reference::chars::is_japanese;
+use reference::coder::encode_by_insertion;
 use reference::grammar::class_of;
+use reference::host;
 use reference::name::{check, japanese_prefectures, latin_prefectures};
 use reference::normal::{normal_form, placed_normal_form};
 use reference::random::Random;
@@ -16,18 +20,23 @@ type Row = (u8, usize);
 /// The row of K3.
 const PAIR: Row = (17, 0);
 
-/// Rows 7 to 10 with 17 after 9: number, and whether it applies to a leftmost
-/// label.
-fn of_leftmost(label: &str) -> [(u8, bool); 5] {
+fn is_ascii(label: &str) -> bool {
+    !label.chars().any(|c| is_japanese(c.into()))
+}
+
+/// Rows 7 to 10 with 17 after 9: number, and whether it applies to a label that
+/// has at least so many characters if it is ASCII, and in which the hyphen pair
+/// is refused if it is ASCII or in any case.
+fn of_label(label: &str, least: usize, pair_in_any: bool) -> [(u8, bool); 5] {
     let count = label.chars().count();
-    let ascii = !label.chars().any(|c| is_japanese(c.into()));
+    let ascii = is_ascii(label);
     let pair = label.chars().skip(2).take(2).collect::<String>() == "--";
     let excepted = |c: char| !is_japanese(c.into()) || "\u{3006}\u{30FC}\u{30FB}".contains(c);
     [
         (7, label.starts_with('-') || label.ends_with('-')),
-        (8, ascii && count < 3),
+        (8, ascii && count < least),
         (9, count > if ascii { 63 } else { 15 }),
-        (17, ascii && pair),
+        (17, (ascii || pair_in_any) && pair),
         (10, label.contains('\u{30FB}') && label.chars().all(excepted)),
     ]
 }
@@ -43,31 +52,70 @@ fn unfit(text: &[u32]) -> Option<usize> {
     placed_normal_form(text).iter().find(|placed| !fits(placed.code)).map(|placed| placed.place)
 }
 
-/// All rows of the check that apply to a text, in the table's order.
-fn applying(text: &[u32]) -> Vec<Row> {
-    // What is no character is unfit, and so is what stands in for it.
+fn row(number: u8, place: usize, applies: bool) -> Option<Row> {
+    applies.then_some((number, place))
+}
+
+/// The normal form as a string. What is no character is unfit, and so is what
+/// stands in for it.
+fn spelled(text: &[u32]) -> String {
     let spelled = |code: u32| char::from_u32(code).unwrap_or('\u{FFFF}');
-    let normal: String = normal_form(text).into_iter().map(spelled).collect();
-    let labels: Vec<&str> = normal.split('.').collect();
-    let counted = labels.len() == 2 || labels.len() == 3;
+    normal_form(text).into_iter().map(spelled).collect()
+}
+
+/// Rows 2 to 6 that apply to a text whose labels are as many as may be, or not.
+fn front(text: &[u32], labels: &[&str], counted: bool) -> [Option<Row>; 5] {
     let empty = labels.iter().position(|label| label.is_empty());
-    let row = |number: u8, place: usize, applies: bool| applies.then_some((number, place));
-    let front = [
+    [
         row(2, 0, text.is_empty()),
         row(3, 256, text.len() > 256),
         unfit(text).map(|place| (4, place)),
         row(5, 0, !counted),
         empty.map(|place| (6, place)),
-    ];
-    let leftmost = of_leftmost(labels[0]).map(|(number, applies)| row(number, 0, applies));
+    ]
+}
+
+/// All rows of the check that apply to a text, in the table's order.
+fn applying(text: &[u32]) -> Vec<Row> {
+    let normal = spelled(text);
+    let labels: Vec<&str> = normal.split('.').collect();
+    let front = front(text, &labels, labels.len() == 2 || labels.len() == 3);
+    let leftmost = of_label(labels[0], 3, false).map(|(number, applies)| row(number, 0, applies));
     let others =
         [row(11, 0, !labels.ends_with(&["jp"])), row(12, 0, labels.len() == 3 && !is_prefecture(labels[1]))];
     front.into_iter().chain(leftmost).chain(others).flatten().collect()
 }
 
+/// How many octets a label has in the ASCII form.
+fn octets(label: &str) -> usize {
+    match is_ascii(label) {
+        true => label.chars().count(),
+        false => 4 + encode_by_insertion(&points(label)).len(),
+    }
+}
+
+/// All rows of hosts that apply to a text, in K10's order: label by label those
+/// of labels, then 14 and 19. An empty label has 6, so the row 8 asks nothing.
+fn applying_to_host(text: &[u32]) -> Vec<Row> {
+    let normal = spelled(text);
+    let labels: Vec<&str> = normal.split('.').collect();
+    let mut rows: Vec<Option<Row>> = front(text, &labels, labels.len() >= 3).into();
+    for (index, label) in labels.iter().enumerate() {
+        rows.extend(of_label(label, 1, true).map(|(number, applies)| row(number, index, applies)));
+    }
+    let octets: Vec<usize> = labels.iter().map(|label| octets(label)).collect();
+    rows.extend(octets.iter().enumerate().map(|(index, octets)| row(14, index, *octets > 63)));
+    rows.push(row(19, 0, octets.iter().sum::<usize>() + octets.len() - 1 > 253));
+    rows.into_iter().flatten().collect()
+}
+
 /// What the check answers; 0 at 0 where it accepts.
 fn answered(text: &[u32]) -> Row {
     check(text).err().map_or((0, 0), |no| (no.number, no.place))
+}
+
+fn answered_of_host(text: &[u32]) -> Row {
+    host::ascii_form(text).err().map_or((0, 0), |no| (no.number, no.place))
 }
 
 fn first(mut rows: impl Iterator<Item = Row>) -> Row {
@@ -162,5 +210,69 @@ fn cases_have_a_text_for_each_two_rows_that_follow_each_other() {
         let found: BTreeSet<(u8, u8)> = rows.map(|rows| (rows[0].0, rows[1].0)).collect();
         let missing: Vec<_> = wanted.difference(&found).collect();
         assert!(missing.is_empty(), "{call}: {missing:?}");
+    }
+}
+
+/// Texts for the rules of hosts: all of the above, the hosts of the cases, random
+/// ones and damaged ones, and all texts of up to nine characters from four.
+fn host_texts() -> Vec<Vec<u32>> {
+    let mut texts = texts();
+    texts.extend(texts_of_cases("HhGgVvR"));
+    let mut random = Random::seeded(10);
+    let maker = HostMaker::default();
+    for _ in 0..10_000 {
+        let typed = maker.typed_host(&mut random);
+        texts.push(maker.damaged(&typed, &mut random));
+        texts.push(typed);
+    }
+    let mut short = vec![String::new()];
+    for _ in 0..9 {
+        short =
+            short.iter().flat_map(|text| ["a", "-", "\u{30FB}", "."].map(|c| format!("{text}{c}"))).collect();
+        texts.extend(short.iter().filter(|text| text.contains('.')).map(|text| points(text)));
+    }
+    texts
+}
+
+/// The rules of hosts give the first row that applies. 8 never comes, since an
+/// empty label has 6, and 14 never comes, since no label is so long.
+#[test]
+fn the_rules_of_hosts_give_the_first_row_that_applies() {
+    let mut seen = BTreeSet::new();
+    for text in host_texts() {
+        let answer = answered_of_host(&text);
+        assert_eq!(answer, first(applying_to_host(&text).into_iter()), "{text:x?}");
+        seen.insert(answer.0);
+    }
+    assert_eq!(seen, [0, 2, 3, 4, 5, 6, 7, 9, 10, 17, 19].into());
+}
+
+/// Two rows of hosts that may be the first ones to apply and between which none
+/// can stand: of one label, of a label and of one after it whatever its number,
+/// and of any label and the total. Each call on a host has such a text.
+#[test]
+fn cases_have_a_host_for_each_two_rows_that_follow_each_other() {
+    let in_one = [(7, 9), (7, 17), (7, 10), (9, 17), (9, 10), (17, 10)];
+    let front = [(2, 5), (3, 4), (4, 5), (5, 6), (6, 7), (7, 19), (9, 19), (17, 19), (10, 19)];
+    for call in ["H", "hG", "gVv"] {
+        let texts = texts_of_cases(call);
+        let rows: Vec<Vec<Row>> = texts.iter().map(|text| applying_to_host(text)).collect();
+        let two = rows.iter().filter(|rows| rows.len() > 1).map(|rows| (rows[0], rows[1]));
+        let found: BTreeSet<(Row, Row)> = two.collect();
+        let has = |one: u8, other: u8, fits: fn(usize, usize) -> bool| {
+            let is = |(a, b): &(Row, Row)| a.0 == one && b.0 == other && fits(a.1, b.1);
+            assert!(found.iter().any(is), "{call}: {one} and {other}");
+        };
+        front.iter().for_each(|(one, other)| has(*one, *other, |_, _| true));
+        in_one.iter().for_each(|(one, other)| has(*one, *other, |at, then| at == then));
+        for (one, other) in
+            [7, 9, 17, 10].into_iter().flat_map(|one| [7, 9, 17, 10].map(|other| (one, other)))
+        {
+            if one != other {
+                has(one, other, |at, then| at < then);
+            }
+        }
+        let late = |rows: &Vec<Row>| rows.len() > 1 && rows[0].1 > 2 && rows[0].0 > 6 && rows[1] == (19, 0);
+        assert!(rows.iter().any(late), "{call}: 19 beside a late label");
     }
 }

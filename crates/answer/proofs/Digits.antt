@@ -23,7 +23,8 @@ use Rattle.rules.specs.Rules.{unfit, labelRows, nameRows, frontRows, textRows, 
 use Rattle.rules.specs.declared.Verdict.{Verdict}
 use Rattle.rules.proofs.Derived.{two-or-three}
 use Rattle.rules.proofs.Steps.{front-3, name-5}
-use Rattle.names.specs.Calls.{uncoded, asciiRows}
+use Rattle.ascii.specs.Ascii.{uncoded}
+use Rattle.names.specs.Calls.{asciiRows}
 use Rattle.answer.specs.Answer.{decimal, reading}
 use Rattle.answer.proofs.Pieces.{one-digit, two-digits, three-digits}
 

@@ -22,9 +22,9 @@ use Rattle.rules.proofs.Today.{lending, lent-short}
 use Rattle.rules.specs.declared.Class.{Class}
 use Rattle.rules.specs.declared.Class.the-variants.{None}
 use Rattle.rules.specs.declared.Verdict.{Verdict}
-use Rattle.names.specs.Calls.{asciiLabel, asciiForm, uncoded, asciiRows}
-use Rattle.names.specs.Steps.{writable}
-use Rattle.names.proofs.Joining.{label-size}
+use Rattle.ascii.specs.Ascii.{asciiLabel, asciiForm, uncoded, writable}
+use Rattle.ascii.proofs.OfNames.{label-size}
+use Rattle.names.specs.Calls.{asciiRows}
 use Rattle.names.proofs.Enough.{accepted-writable}
 use Rattle.names.proofs.Answering.{ascii-passed}
 use Rattle.unicode.specs.Utf8.{decoded}

@@ -20,7 +20,8 @@ use Rattle.rules.specs.Labels.{labels}
 use Rattle.rules.specs.Permits.{Permits}
 use Rattle.rules.specs.Rules.{verdict}
 use Rattle.rules.specs.declared.Verdict.{Verdict}
-use Rattle.names.specs.Calls.{Answers, asciiForm, asciiFormed, asciiRows, AsciiForms}
+use Rattle.ascii.specs.Ascii.{asciiForm}
+use Rattle.names.specs.Calls.{Answers, asciiFormed, asciiRows, AsciiForms}
 use Rattle.names.specs.declared.AsciiForm.{AsciiForm}
 use Rattle.names.proofs.Answering.{ascii-cleared}
 use Rattle.answer.specs.Answer.{letter, decimal, decimalBy, answerLine, goodAnswer}

@@ -12,7 +12,8 @@ use Rattle.rules.specs.Permits.{Permits}
 use Rattle.rules.specs.Rules.{verdict}
 use Rattle.rules.specs.declared.Class.{Class}
 use Rattle.rules.specs.declared.Class.the-variants.{None, General, Prefecture}
-use Rattle.names.specs.Calls.{asciiRows, asciiForm}
+use Rattle.ascii.specs.Ascii.{asciiForm}
+use Rattle.names.specs.Calls.{asciiRows}
 use Rattle.unicode.specs.Utf8.{decoded}
 use Rattle.lines.specs.Fields.{idOf, nameOf, oneTab, goodId}
 

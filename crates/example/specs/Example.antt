@@ -20,7 +20,8 @@ use Rattle.rules.specs.Prefectures.{prefectures}
 use Rattle.rules.specs.Rules.{unfit, middleDot, ordinary, isJapanese, beginsWithHyphen}
 use Rattle.rules.specs.Rules.{endsWithHyphen, hyphenEdge, short, long, hyphenPair, pretends, bareDot}
 use Rattle.rules.specs.Rules.{labelRows, jp, nameRows, frontRows, textRows, verdict}
-use Rattle.names.specs.Calls.{asciiLabel, asciiForm, uncoded, asciiRows}
+use Rattle.ascii.specs.Ascii.{asciiLabel, asciiForm, uncoded}
+use Rattle.names.specs.Calls.{asciiRows}
 use Rattle.unicode.specs.Utf8.{scalar, proper, decodeFrom}
 use Rattle.lines.specs.Lines.{lf, linesFrom, lines}
 use Rattle.lines.specs.Fields.{tab, idOf, nameOf, oneTab, idByte, goodId}

@@ -65,8 +65,8 @@ below-suc a b =
     ⊎-elim (λ h. lt-ltb a b h ∙ sym (lt-ltb (suc a) (suc b) (omega arith))) (λ h. le-ltb a b h ∙ sym (le-ltb (suc a) (suc b) (omega arith)))
     (lt-or-le a b)
 
-module _ (f : ℕ → Bool) where
-  any-first : (xs : List ℕ) → anyOf f xs ≡ ltb (indexOf f xs) (length xs)
+module _ {A : Type 0} (f : A → Bool) where
+  any-first : (xs : List A) → anyOf f xs ≡ ltb (indexOf f xs) (length xs)
   unfolding anyOf indexOf
   any-first [] = refl
   any-first (x ∷ xs) = go (f x) (any-first xs)
@@ -75,16 +75,16 @@ module _ (f : ℕ → Bool) where
       go true e = sym (lt-ltb 0 (suc (length xs)) (omega arith))
       go false e = e ∙ below-suc (indexOf f xs) (length xs)
 
-  pub found : (xs : List ℕ) → indexOf f xs < length xs → anyOf f xs ≡ true
+  pub found : (xs : List A) → indexOf f xs < length xs → anyOf f xs ≡ true
   found xs h = any-first xs ∙ lt-ltb (indexOf f xs) (length xs) h
 
-  pub not-found : (xs : List ℕ) → length xs ≤ indexOf f xs → anyOf f xs ≡ false
+  pub not-found : (xs : List A) → length xs ≤ indexOf f xs → anyOf f xs ≡ false
   not-found xs h = any-first xs ∙ le-ltb (indexOf f xs) (length xs) h
 
-  pub found-inside : (xs : List ℕ) → anyOf f xs ≡ true → indexOf f xs < length xs
+  pub found-inside : (xs : List A) → anyOf f xs ≡ true → indexOf f xs < length xs
   found-inside xs e = ltb-true (indexOf f xs) (length xs) (sym (any-first xs) ∙ e)
 
-  pub none-before : (xs : List ℕ) → anyOf f (take (indexOf f xs) xs) ≡ false
+  pub none-before : (xs : List A) → anyOf f (take (indexOf f xs) xs) ≡ false
   unfolding anyOf indexOf
   none-before [] = refl
   none-before (x ∷ xs) = go (f x) refl (none-before xs)
@@ -93,6 +93,7 @@ module _ (f : ℕ → Bool) where
       go true e h = refl
       go false e h = rw e h
 
+module _ (f : ℕ → Bool) where
   pub holds-there : (xs : List ℕ) → indexOf f xs < length xs → f (getD xs (indexOf f xs) 0) ≡ true
   unfolding indexOf
   holds-there [] h = absurd (omega arith)

@@ -69,6 +69,17 @@ refused-before (r ∷ rs) ss n = go (r .applies) n (refused-before rs ss)
     go true n on = refl
     go false n on = on n
 
+-- so of two tables, where the first answers a: a refusal stands, and with 0 the second gives the answer
+module _ (rs ss : List Row) {a : Answer} (e : first rs ≡ a) where
+  number-is : first rs .number ≡ a .number
+  number-is = ap (λ (x : Answer). x .number) e
+
+  pub stands : (a .number ≡ 0 → ⊥) → first (rs ++ ss) ≡ a
+  stands h = refused-before rs ss (λ z. h (sym number-is ∙ z)) ∙ e
+
+  pub hands-on : (first rs .number ≡ 0 → Clear rs) → a .number ≡ 0 → first (rs ++ ss) ≡ first ss
+  hands-on cleared z = clear-before rs ss (cleared (number-is ∙ z))
+
 -- an answer whose number no row of the first table has says that none of these applies
 pub past-table : (n : ℕ) (rs ss : List Row) → allOf (λ (r : Row). not (eqb (r .number) n)) rs ≡ true → first (rs ++ ss) .number ≡ n → Clear rs
 unfolding first allOf

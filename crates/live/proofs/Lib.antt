@@ -2,3 +2,4 @@ pub mod Typing
 mod Looking
 pub mod Nightly
 pub mod Hope
+pub mod Hosts

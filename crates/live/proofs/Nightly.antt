@@ -13,7 +13,8 @@ use Rattle.rules.specs.Rules.{rules}
 use Rattle.rules.specs.declared.Verdict.{Verdict}
 use Rattle.rules.proofs.Steps.{front-3, text-front}
 use Rattle.rules.proofs.Minus.{withHyphens}
-use Rattle.names.specs.Calls.{shown, padded, judged, checkSaid, Checks, asciiSaid, AsciiForms}
+use Rattle.fronts.specs.Fronts.{shown, padded}
+use Rattle.names.specs.Calls.{judged, checkSaid, Checks, asciiSaid, AsciiForms}
 use Rattle.names.specs.declared.AsciiForm.{AsciiForm}
 use Rattle.names.specs.declared.Checked.{Checked}
 use Rattle.names.specs.declared.Judged.{Judged}

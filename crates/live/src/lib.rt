@@ -1,7 +1,9 @@
 // The live check: a state that takes one code point at a time and shows, after each, what the nightly rules say of the text so far.
 // Beside it stands whether that text may yet become a name. It keeps the text and no second set of rules: each call hands the text to
-// `names`. Its meaning is defined in specs/Live; that what it shows is what the nightly rules say is proofs/Nightly, and that it says no
-// exactly where no continuation is accepted, proofs/Hope.
+// `names`, or to `hosts` (src/host_looks). Its meaning is defined in specs/Live; that what it shows is what the nightly rules say is
+// proofs/Nightly, and that it says no exactly where no continuation is accepted, proofs/Hope.
+pub mod host_looks;
+
 ghost use mathlib.Core.Path.{_≡_};
 ghost use Rattle.rules.specs.Editions.{today, todayWith};
 ghost use Rattle.live.specs.Live.{fresh, stepped, tooLong, looked, hoped};

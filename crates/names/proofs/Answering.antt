@@ -24,12 +24,13 @@ use Rattle.rules.specs.Rules.{labelRows, nameRows, frontRows, textRows, classOf
 use Rattle.rules.specs.declared.Class.{Class}
 use Rattle.rules.specs.declared.Verdict.{Verdict}
 use Rattle.rules.proofs.ByName.{clear-text, text-cleared}
-use Rattle.names.specs.Calls.{Answers, checked, checkRows, Checks, uncoded, asciiForm, asciiFormed, asciiRows, AsciiForms}
+use Rattle.ascii.specs.Ascii.{asciiForm, uncoded}
+use Rattle.fronts.proofs.Shown.{at-start, shown-full}
+use Rattle.names.specs.Calls.{Answers, checked, checkRows, Checks, asciiFormed, asciiRows, AsciiForms}
 use Rattle.names.specs.Steps.{Judges}
 use Rattle.names.specs.declared.AsciiForm.{AsciiForm}
 use Rattle.names.specs.declared.Checked.{Checked}
 use Rattle.names.specs.declared.judges.Ruled.{Ruled}
-use Rattle.names.proofs.Judging.{shown-full, fronted}
 
 -- ---- any call that writes
 
@@ -77,7 +78,7 @@ module _ (P : Permits) (text : List ℕ) {lent after : List ℕ} {j : Ruled} (e 
       record {
         clear = all;
         class = ap (λ (x : Ruled). x .class) (e .result) ∙ rw (sym number-is ∙ z);
-        form = rw (size, e .buffer, shows) (fronted (normalForm text) lent);
+        form = rw (size, e .buffer, shows) (at-start (normalForm text) lent);
         size = size;
         few = omega (arith, no-longer text);
       }

@@ -22,12 +22,14 @@ use Rattle.rules.specs.Rules.{isJapanese, long, jp, textRows, refused}
 use Rattle.rules.proofs.ByName.{Passed, clear-text}
 use Rattle.rules.proofs.Cuts.{labels-fit}
 use Rattle.rules.proofs.Derived.{left-size, middle-length, two-or-three}
-use Rattle.names.specs.Calls.{asciiForm, asciiFormed, uncoded, AsciiForms}
-use Rattle.names.specs.Steps.{octet, writable, Writable, PutsWhere, Judges}
+use Rattle.ascii.specs.Labels.{high}
+use Rattle.ascii.specs.Ascii.{asciiForm, uncoded, writable}
+use Rattle.ascii.proofs.OfNames.{label-writable}
+use Rattle.names.specs.Calls.{asciiFormed, AsciiForms}
+use Rattle.names.specs.Steps.{Writable, PutsWhere, Judges}
 use Rattle.names.specs.declared.AsciiForm.{AsciiForm}
-use Rattle.names.specs.declared.ascii.Put.{Put}
+use Rattle.names.specs.declared.whole.Put.{Put}
 use Rattle.names.specs.declared.judges.Ruled.{Ruled}
-use Rattle.names.proofs.Beyond.{ascii-octets}
 use Rattle.names.proofs.Answering.{accepted-as, ascii-uncoded, ascii-accepted}
 
 -- ---- a law of each label of an accepted name
@@ -58,16 +60,8 @@ module _ (P : Permits) (f : List ℕ → Bool) (left : (l : List ℕ) → allOf 
 
 -- ---- of at most 63 characters where it is not coded
 
-label-writable : (P : Permits) (l : List ℕ) → allOf (labelChar P) l ≡ true → (isJapanese P l ≡ false → length l ≤ 63) → writable P l ≡ true
-unfolding writable
-label-writable P l a k = go (isJapanese P l) refl
-  where
-    go : (j : Bool) → isJapanese P l ≡ j → isJapanese P l || (leb (length l) 63 && allOf octet l) ≡ true
-    go true p = rw p
-    go false p = rw (p, le-leb (length l) 63 (k p), ascii-octets P l a p)
-
 jp-writable : (P : Permits) → writable P jp ≡ true
-unfolding writable jp allOf octet
+unfolding writable jp anyOf high
 jp-writable P = or-right (isJapanese P (0x6A ∷ 0x70 ∷ [])) true refl
 
 module _ (P : Permits) (short : ShortMiddles P) (text : List ℕ) where

@@ -11,7 +11,7 @@ use lib.Seq.{take-all, take-suc-set}
 use borrow.Author.Tests.{not-true, not-false}
 use Rattle.lists.specs.Tests.{within, anyOf}
 use Rattle.lists.specs.Front.{written}
-use Rattle.lists.specs.Rows.{first, Clear}
+use Rattle.lists.specs.Rows.{accepted, first, Clear}
 use Rattle.lists.specs.declared.Answer.{Answer}
 use Rattle.lists.proofs.Fronts.{front}
 use Rattle.lists.proofs.Laws.{both, or-left, or-right, refuted, clash, lt-or-le}
@@ -27,10 +27,8 @@ use Rattle.rules.specs.Hopeful.{begins, leftmost, tries, grows, hopeful}
 use Rattle.rules.proofs.ByName.{clear-front, front-clear, front-cleared}
 use Rattle.rules.proofs.Cuts.{labelled}
 use Rattle.rules.proofs.Hopeless.{leftmost-length, past-hope}
-use Rattle.names.specs.Steps.{Fronts}
-use Rattle.names.specs.declared.judges.Fronted.{Fronted}
+use Rattle.fronts.proofs.Fronting.{Told, told-form}
 use Rattle.names.proofs.OfName.{some-label}
-use Rattle.names.proofs.Judging.{front-form}
 
 -- ---- one character more, in an array of 64
 
@@ -118,23 +116,22 @@ unfolding hopeful normalForm normalPlaced replacedFrom compose labels grows trie
 nothing-yet table [] h = refl
 nothing-yet table (x ∷ xs) h = absurd (omega arith)
 
-module _ (P : Permits) (shorts : ShortMiddles P) {text before after : List ℕ} {r : Fronted} (F : Fronts P text before after r) where
+module _ (P : Permits) (shorts : ShortMiddles P) where
   -- what 2 to 4 refuse, but for a text with nothing in it yet, has no hope
-  no-front : 1 ≤ length text → hopeful P text ≡ true → Clear (frontRows P text)
+  no-front : (text : List ℕ) → 1 ≤ length text → hopeful P text ≡ true → Clear (frontRows P text)
   unfolding hopeful
-  no-front some e =
+  no-front text some e =
       let k = both (not (anyOf (unfit P) (normalForm text))) _ e in
       let few : length text ≤ 256 =
       ⊎-elim (λ g. clash e (unfold hopeful in past-hope P shorts text g)) (λ g. g) (lt-or-le 256 (length text)) in
       front-clear P text (record { some = some; few = few; fit = not-true (anyOf (unfit P) (normalForm text)) (k .0) })
 
-  pub no-hope : (length text ≡ 0 → ⊥) → (r .number ≡ 0 → ⊥) → false ≡ hopeful P text
-  no-hope some h =
-      sym (refuted (hopeful P text) (λ e.
-      h (ap (λ (x : Fronted). x .number) (F .result) ∙ ap (λ (a : Answer). a .number) (clear (frontRows P text) (no-front (omega arith) e)))))
+  pub no-hope : {text before after : List ℕ} {n : ℕ} {a : Answer} → Told P text before after a n → (length text ≡ 0 → ⊥) → (a .number ≡ 0 → ⊥) → false ≡ hopeful P text
+  no-hope {text} T some h =
+      sym (refuted (hopeful P text) (λ e. h (ap (λ (x : Answer). x .number) (sym (T .answer) ∙ clear (frontRows P text) (no-front text (omega arith) e)))))
 
-  pub front-hope : {b : Bool} → r .number ≡ 0 → b ≡ grows P (labels (take (r .length - 0) (drop 0 after))) → b ≡ hopeful P text
+  pub front-hope : {text before after : List ℕ} {n : ℕ} {b : Bool} (T : Told P text before after accepted n) → b ≡ grows P (labels (take (n - 0) (drop 0 after))) → b ≡ hopeful P text
   unfolding hopeful
-  front-hope z q =
-      let fit = clear-front P text (front-cleared P text (sym (ap (λ (x : Fronted). x .number) (F .result)) ∙ z)) .fit in
-      q ∙ rw (front-form P F z, fit)
+  front-hope {text} T q =
+      let fit = clear-front P text (front-cleared P text (ap (λ (a : Answer). a .number) (T .answer))) .fit in
+      q ∙ rw (told-form P T, fit)

@@ -1,5 +1,4 @@
 pub mod OfName
-pub mod Beyond
 pub mod Judging
 pub mod Answering
 pub mod Joining

@@ -9,7 +9,9 @@ use Rattle.lists.specs.Rows.{Row}
 use Rattle.rules.specs.Permits.{Permits}
 use Rattle.rules.specs.declared.Verdict.{Verdict}
 use Rattle.rules.proofs.Minus.{withHyphens, minus-length, minus-form, minus-rows, minus-rules}
-use Rattle.names.specs.Calls.{shown, judged, Answers, checkRows, Checks, asciiForm, asciiRows, AsciiForms}
+use Rattle.fronts.specs.Fronts.{shown}
+use Rattle.ascii.specs.Ascii.{asciiForm}
+use Rattle.names.specs.Calls.{judged, Answers, checkRows, Checks, asciiRows, AsciiForms}
 use Rattle.names.specs.declared.AsciiForm.{AsciiForm}
 use Rattle.names.specs.declared.Checked.{Checked}
 

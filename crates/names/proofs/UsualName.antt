@@ -34,14 +34,16 @@ use Rattle.rules.proofs.Sound.{low}
 use Rattle.rules.proofs.Steps.{front-0, text-on, name-left, name-0}
 use Rattle.labels.specs.Known.{knownRows}
 use Rattle.labels.proofs.OfLabel.{rows-are}
-use Rattle.names.specs.Calls.{asciiLabel, asciiForm, asciiFormed, uncoded, AsciiForms}
-use Rattle.names.specs.Steps.{beyond, writable, PutsOrKeeps, UsualLabel, dotJp, endsInJp}
+use Rattle.ascii.specs.Labels.{high}
+use Rattle.ascii.specs.Ascii.{asciiLabel, asciiForm, uncoded, writable}
+use Rattle.ascii.proofs.OfNames.{high-fit, label-size}
+use Rattle.names.specs.Calls.{asciiFormed, AsciiForms}
+use Rattle.names.specs.Steps.{PutsOrKeeps, UsualLabel, dotJp, endsInJp}
 use Rattle.names.specs.declared.AsciiForm.{AsciiForm}
-use Rattle.names.specs.declared.ascii.Put.{Put}
+use Rattle.names.specs.declared.whole.Put.{Put}
 use Rattle.names.proofs.Answering.{ascii-refused, ascii-uncoded, ascii-accepted}
-use Rattle.names.proofs.Beyond.{beyond-fit}
 use Rattle.names.proofs.Enough.{accepted-writable}
-use Rattle.names.proofs.Joining.{put-jp, label-size}
+use Rattle.names.proofs.Joining.{put-jp}
 use Rattle.names.proofs.OfName.{two-filled}
 
 -- ---- what a label may hold
@@ -188,9 +190,9 @@ module _ (P : Permits) (stretch : InStretch P) (shorts : ShortMiddles P) (marks 
 
   -- ---- what is said of it
 
-  module _ {j : Bool} {a : Answer} (known : j ≡ anyOf beyond label) (told : a ≡ first (knownRows P j ofName label 0)) where
+  module _ {j : Bool} {a : Answer} (known : j ≡ anyOf high label) (told : a ≡ first (knownRows P j ofName label 0)) where
     e : a ≡ first (labelRows P ofName label 0)
-    e = told ∙ rows-are P (marks .dot) label ofName 0 (beyond-fit P stretch label known (w .fit))
+    e = told ∙ rows-are P (marks .dot) label ofName 0 (known ∙ high-fit P stretch label (w .fit))
 
     refused-by : (a .number ≡ 0 → ⊥) → rules P text ≡ refused (a .number) (a .place)
     refused-by h = ruled ∙ name-left P (label ∷ jp ∷ []) refl filled e h

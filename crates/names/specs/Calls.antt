@@ -1,34 +1,25 @@
 -- What the calls on a name answer, and what they leave in the buffer that is lent to them: document 01, 'Numbers a
 -- call may answer'.
-use mathlib.Core.Bool.{Bool, not, _&&_}
-use mathlib.Core.List.{List, [], _∷_, _++_, map}
+use mathlib.Core.List.{List, [], _∷_, _++_}
 use mathlib.Core.Path.{_≡_}
-use Prim.Native.Nat.{ℕ, _-_}
-use lib.Dec.{eqb, ltb}
-use lib.ListN.{length, replicate}
-use Rattle.lists.specs.Tests.{pick, anyOf}
+use Prim.Native.Nat.{ℕ}
+use lib.Dec.{ltb}
+use lib.ListN.{length}
+use Rattle.lists.specs.Tests.{anyOf}
 use Rattle.lists.specs.Front.{written}
 use Rattle.lists.specs.Rows.{Row, row, first, given}
 use Rattle.normal.specs.Normal.{normalForm}
-use Rattle.punycode.specs.Punycode.{ace}
-use Rattle.punycode.specs.Calls.{coderNumber}
-use Rattle.rules.specs.Labels.{labels, join}
+use Rattle.rules.specs.Labels.{labels}
 use Rattle.rules.specs.Permits.{Permits}
-use Rattle.rules.specs.Rules.{isJapanese, textRows, verdict, rules}
+use Rattle.rules.specs.Rules.{textRows, verdict, rules}
 use Rattle.rules.specs.declared.Verdict.{Verdict}
+use Rattle.fronts.specs.Fronts.{shown, padded}
+use Rattle.ascii.specs.Ascii.{asciiForm, uncoded}
 use Rattle.names.specs.declared.Judged.{Judged}
 use Rattle.names.specs.declared.Checked.{Checked}
 use Rattle.names.specs.declared.AsciiForm.{AsciiForm}
 
 -- ---- the judge: what the rules say of a text, with its normal form
-
--- the normal form of up to 256 code points; beyond that no text
-unfoldable pub shown : List ℕ → List ℕ
-shown text = pick (ltb 256 (length text)) [] (normalForm text)
-
--- in an array of 256, with zeros past it
-unfoldable pub padded : List ℕ → List ℕ
-padded xs = xs ++ replicate (256 - length xs) 0
 
 unfoldable pub judged : Permits → List ℕ → Judged
 judged P text =
@@ -64,18 +55,8 @@ checkSaid r = record { number = r .number; place = r .place; class = r .class }
 abbrev pub Checks : Permits → List ℕ → List ℕ → List ℕ → Checked → Type 0
 Checks P text before after r = Answers checked (checkRows P text (length before)) text (normalForm text) before after r
 
--- ---- the whole ASCII form: 1 for a buffer under 192, the rules, then 14; with 0 it writes the form
-
--- it encodes each Japanese label, leaves ASCII labels, joins by periods
-unfoldable pub asciiLabel : Permits → List ℕ → List ℕ
-asciiLabel P l = pick (isJapanese P l) (ace l) l
-
-unfoldable pub asciiForm : Permits → List ℕ → List ℕ
-asciiForm P form = join (map (asciiLabel P) (labels form))
-
--- the coder refuses a Japanese label; of an accepted name it never does, neither with 13 nor with 14 (proofs/Coded)
-unfoldable pub uncoded : Permits → List ℕ → Bool
-uncoded P l = isJapanese P l && not (eqb (coderNumber l 63) 0)
+-- ---- the whole ASCII form: 1 for a buffer under 192, the rules, then 14, which never comes of an accepted name
+-- (proofs/Coded); with 0 it writes the form
 
 unfoldable pub asciiRows : Permits → List ℕ → ℕ → List Row
 asciiRows P text room =

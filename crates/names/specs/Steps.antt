@@ -1,32 +1,21 @@
--- What the functions below the calls answer: 2 to 4 and all rules of a text with its normal form, the parts of an
--- ASCII form, the usual name.
-use mathlib.Core.Bool.{Bool, true, false, _&&_, _||_}
+-- What the functions below the calls answer: the rules of a text with its normal form, the parts of an ASCII form, the
+-- usual name.
+use mathlib.Core.Bool.{Bool, true, false, _&&_}
 use mathlib.Core.List.{List, _∷_}
 use mathlib.Core.Path.{_≡_}
 use Prim.Native.Nat.{ℕ, _-_, _*_, _≤_}
-use lib.Dec.{leb, ltb}
 use lib.ListN.{length, drop}
 use Rattle.lists.specs.Tests.{within, allOf, same}
 use Rattle.lists.specs.Front.{written, Puts}
-use Rattle.lists.specs.Rows.{first}
 use Rattle.rules.specs.Labels.{labels}
 use Rattle.rules.specs.Permits.{Permits, labelChar}
-use Rattle.rules.specs.Rules.{isJapanese, jp, frontRows, rules}
-use Rattle.names.specs.Calls.{shown}
-use Rattle.names.specs.declared.ascii.Put.{Put}
-use Rattle.names.specs.declared.judges.Fronted.{Fronted}
+use Rattle.rules.specs.Rules.{jp, rules}
+use Rattle.fronts.specs.Fronts.{shown}
+use Rattle.ascii.specs.Ascii.{writable}
+use Rattle.names.specs.declared.whole.Put.{Put}
 use Rattle.names.specs.declared.judges.Ruled.{Ruled}
 
--- what 2 to 4 say of a text, with the length of its normal form, which stands at the buffer's start
-pub record Fronts (P : Permits) (text before after : List ℕ) (r : Fronted) : Type 0 where
-  pub result : r ≡ record {
-    number = first (frontRows P text) .number;
-    place = first (frontRows P text) .place;
-    length = length (shown text);
-  }
-  pub buffer : after ≡ written (shown text) before
-
--- what the rules say of it, with the same
+-- what the rules say of a text, with the length of its normal form, which stands at the buffer's start
 pub record Judges (P : Permits) (text before after : List ℕ) (r : Ruled) : Type 0 where
   pub result : r ≡ record {
     number = rules P text .number;
@@ -38,18 +27,7 @@ pub record Judges (P : Permits) (text before after : List ℕ) (r : Ruled) : Typ
 
 -- ---- the parts of an ASCII form
 
-unfoldable pub octet : ℕ → Bool
-octet c = ltb c 0x100
-
--- more than an octet holds
-unfoldable pub beyond : ℕ → Bool
-beyond c = ltb 0xFF c
-
--- a label whose ASCII form has room in 63 octets, if the coder takes it
-unfoldable pub writable : Permits → List ℕ → Bool
-writable P l = isJapanese P l || (leb (length l) 63 && allOf octet l)
-
--- each label of a form is, and there is room for 64 octets of each
+-- each label of a form is writable, and there is room for 64 octets of each
 pub record Writable (P : Permits) (form : List ℕ) (room : ℕ) : Type 0 where
   pub fit : allOf (writable P) (labels form) ≡ true
   pub few : 64 * length (labels form) ≤ room

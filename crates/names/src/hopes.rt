@@ -2,10 +2,10 @@
 use crate::ACCEPTED;
 use crate::EVERY_PAIR;
 use crate::LEAST;
-use crate::judges::front_into;
 use endings::begins_jp;
 use endings::begins_prefecture;
 use endings::is_prefecture;
+use fronts::front_with;
 use labels::label_end;
 use labels::label_rule_with;
 ghost use mathlib.Core.Path.{_≡_};
@@ -106,8 +106,11 @@ pub fn may_become_with(kanji: &[u32], text: &[u32]) -> bool
         return true;
     }
     let mut form = [0u32; 256];
-    let front = front_into(kanji, text, &mut form);
+    let front = front_with(kanji, text, &mut form);
     if front.number != ACCEPTED {
+        return false;
+    }
+    if front.unfit {
         return false;
     }
     let length = front.length;

@@ -11,7 +11,7 @@ use crate::NOT_PREFECTURE;
 use crate::UNFIT;
 use endings::is_jp;
 use endings::is_prefecture;
-use labels::first_unfit_with;
+use fronts::front_with;
 use labels::label_end;
 use labels::label_rule_with;
 use rules::Class;
@@ -24,7 +24,7 @@ ghost use Rattle.rules.specs.Labels.{labels};
 ghost use Rattle.rules.specs.Rules.{byLabels, accepted, refused};
 ghost use Rattle.rules.specs.Editions.{today, todayWith};
 ghost use Rattle.names.specs.Calls.{judged};
-ghost use Rattle.names.specs.Steps.{Fronts, Judges};
+ghost use Rattle.names.specs.Steps.{Judges};
 
 fn refused(number: u8, place: usize) -> Verdict
     ensures { λ r. ⌜ r ≡ refused number place ⌝ }
@@ -115,42 +115,6 @@ fn name_rules(kanji: &[u32], form: &[u32]) -> Verdict
     refused(LABEL_COUNT, 0)
 }
 
-// What 2 to 4 say of a text, and how long its normal form is.
-pub(crate) struct Fronted {
-    pub number: u8,
-    pub place: usize,
-    pub length: usize,
-}
-
-// The first rules on a text, 2 to 4; its normal form is left at the start of the lent buffer.
-pub(crate) fn front_into(kanji: &[u32], text: &[u32], form: &mut [u32]) -> Fronted
-    requires { ⌜ 256 ≤ length (now form) ⌝ }
-    ensures { λ r. ⌜ Fronts (todayWith (now (kanji .entry))) (now (text .entry)) (now (form .entry)) (now (form .exit)) r ⌝ }
-{
-    let normal = normal::normal_form(text, form);
-    let length = normal.length;
-    if normal.number != ACCEPTED {
-        return Fronted {
-            number: normal.number,
-            place: normal.place,
-            length,
-        };
-    }
-    let k = first_unfit_with(kanji, &form[0..length]);
-    if k < length {
-        return Fronted {
-            number: UNFIT,
-            place: normal::place_of(text, k),
-            length,
-        };
-    }
-    Fronted {
-        number: ACCEPTED,
-        place: 0,
-        length,
-    }
-}
-
 // What the rules say of a text, and how long its normal form is.
 pub(crate) struct Ruled {
     pub number: u8,
@@ -164,12 +128,20 @@ pub(crate) fn judge_into(kanji: &[u32], text: &[u32], form: &mut [u32]) -> Ruled
     requires { ⌜ 256 ≤ length (now form) ⌝ }
     ensures { λ r. ⌜ Judges (todayWith (now (kanji .entry))) (now (text .entry)) (now (form .entry)) (now (form .exit)) r ⌝ }
 {
-    let front = front_into(kanji, text, form);
+    let front = front_with(kanji, text, form);
     let length = front.length;
     if front.number != ACCEPTED {
         return Ruled {
             number: front.number,
             place: front.place,
+            class: Class::None,
+            length,
+        };
+    }
+    if front.unfit {
+        return Ruled {
+            number: UNFIT,
+            place: front.at,
             class: Class::None,
             length,
         };

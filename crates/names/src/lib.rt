@@ -1,20 +1,20 @@
 // The calls on a name: judge, check, whether it may yet become one, whole ASCII form. Each takes any text and any lent buffer, says by
 // itself whether the text is fit, and writes nothing where it refuses. Its meaning is defined in `rules` (specs/Rules, Hopeful) and here in
 // specs/Calls. A call `.._with` is lent the table of kanji, so that a program names that table once; the call without names it itself.
-mod ascii;
 mod checks;
 mod hopes;
 mod judges;
 mod usual;
+mod whole;
 
-pub use ascii::to_ascii;
-pub use ascii::to_ascii_with;
 pub use checks::check;
 pub use checks::check_with;
 pub use hopes::may_become;
 pub use hopes::may_become_with;
 pub use judges::judge;
 pub use judges::judge_with;
+pub use whole::to_ascii;
+pub use whole::to_ascii_with;
 
 // The numbers that a call on a name answers (document 01), besides 2 and 3, which are the normal form's, and 7 to 10 and 17, a label's.
 pub const ACCEPTED: u8 = 0;

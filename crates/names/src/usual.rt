@@ -4,9 +4,9 @@ use crate::AsciiForm;
 use crate::EVERY_PAIR;
 use crate::LEAST;
 use crate::OVER_63;
-use crate::ascii::any_beyond;
-use crate::ascii::put_label;
-use crate::ascii::refused_form;
+use crate::whole::put_label;
+use crate::whole::refused_form;
+use ascii::any_high;
 use labels::in_label_with;
 use labels::known_rule_with;
 use rules::Class;
@@ -63,7 +63,7 @@ pub(crate) fn usual_name(kanji: &[u32], label: &[u32], out: &mut [u8]) -> AsciiF
     requires { ⌜ UsualLabel (todayWith (now kanji)) (now label) × (192 ≤ length (now out)) ⌝ }
     ensures { λ r. ⌜ AsciiForms (todayWith (now (kanji .entry))) (now (label .entry) ++ dotJp) (now (out .entry)) (now (out .exit)) r ⌝ }
 {
-    let japanese = any_beyond(label);
+    let japanese = any_high(label);
     let rule = known_rule_with(kanji, label, japanese, LEAST, EVERY_PAIR, 0);
     if rule.number != ACCEPTED {
         return refused_form(rule.number, rule.place);

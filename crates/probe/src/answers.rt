@@ -2,6 +2,7 @@
 ghost use Prim.Native.Nat.{_≤_};
 ghost use lib.ListN.{length};
 use crate::cases;
+use crate::hosted;
 use crate::kinds;
 use crate::label;
 use crate::lent;
@@ -114,6 +115,25 @@ fn on_name(
     }
 }
 
+// A call on a host, likewise.
+fn on_host(
+    kanji: &[u32],
+    call: u8,
+    own: bool,
+    text: &[u32],
+    room: usize,
+    out: &mut [u8],
+    o: usize,
+) -> usize
+    requires { ⌜ room ≤ 300 ⌝ }
+{
+    match call {
+        b'H' | b'h' => hosted::to_ascii(kanji, own, text, room, out, o),
+        b'G' | b'g' => hosted::judge(kanji, own, text, out, o),
+        _ => hosted::live_check(kanji, own, text, out, o),
+    }
+}
+
 // The call of a case on its numbers. A letter in lower case is a call that names its own table.
 fn call(kanji: &[u32], call: u8, numbers: &[u32], room: usize, out: &mut [u8], o: usize) -> usize
     requires { ⌜ room ≤ 300 ⌝ }
@@ -122,6 +142,8 @@ fn call(kanji: &[u32], call: u8, numbers: &[u32], room: usize, out: &mut [u8], o
     match call {
         b'A' | b'C' | b'J' | b'L' | b'S' => on_name(kanji, call, false, numbers, room, out, o),
         b'a' | b'c' | b'j' | b'l' | b's' => on_name(kanji, call, true, numbers, room, out, o),
+        b'G' | b'H' | b'V' => on_host(kanji, call, false, numbers, room, out, o),
+        b'g' | b'h' | b'v' => on_host(kanji, call, true, numbers, room, out, o),
         b'B' | b'D' | b'F' | b'U' | b'W' => on_octets(kanji, call, numbers, room, out, o),
         b'E' => encode(numbers, room, out, o),
         b'K' => kinds::kinds(kanji, numbers, out, o),
@@ -129,7 +151,9 @@ fn call(kanji: &[u32], call: u8, numbers: &[u32], room: usize, out: &mut [u8], o
         b'N' => normal_form(numbers, room, out, o),
         b'P' => slices::places(numbers, room, out, o),
         b'Q' => label::one_label(kanji, numbers, room, out, o),
+        b'R' => hosted::front(kanji, numbers, room, out, o),
         b'T' => slices::two_lists(numbers, room, out, o),
+        b'X' => hosted::label_form(numbers, room, out, o),
         _ => printed::put_byte(out, o, b'?'),
     }
 }

@@ -4,6 +4,7 @@
 // `stdin` and holds what it writes to `stdout`; both are made by `reference/` (.ci/cases).
 mod answers;
 mod cases;
+mod hosted;
 mod kinds;
 mod label;
 mod lent;

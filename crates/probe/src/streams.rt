@@ -7,7 +7,7 @@ use crate::printed;
 const PIECE: usize = 7;
 
 // The state that the code points lead to, from the fresh one.
-fn typed(text: &[u32]) -> live::Live {
+pub(crate) fn typed(text: &[u32]) -> live::Live {
     let mut state = live::Live::fresh();
     let mut i: usize = 0;
     while i < text.len() {
@@ -33,7 +33,7 @@ fn shown(form: &[u32]) -> usize
 }
 
 // The entries of the array that a look shows, each after a space.
-fn put_shown(out: &mut [u8], from: usize, form: &[u32]) -> usize {
+pub(crate) fn put_shown(out: &mut [u8], from: usize, form: &[u32]) -> usize {
     let n = shown(form);
     let mut o = from;
     let mut i: usize = 0;

@@ -1,17 +1,18 @@
 -- The labels of a text: a period ends a label and begins the next, any other character stands in the label it came to; so each law
 -- is an induction over the text.
 -- Assumes nothing.
-use mathlib.Core.Path.{_≡_, refl, ap, _∙_}
+use mathlib.Core.Path.{_≡_, refl, sym, ap, _∙_}
 use mathlib.Core.Bool.{Bool, true, false, _||_}
-use mathlib.Core.List.{List, [], _∷_, _++_}
+use mathlib.Core.List.{List, [], _∷_, _++_, map}
+use mathlib.Core.Logic.{⊎-elim}
 use Prim.Native.Nat.{ℕ, suc, _+_, _-_, _≤_, _<_}
 use native.Mathlib.Numerals.{add-one}
 use native.Mathlib.Omega.{arith}
 use lib.ListN.{length, take, drop, length-drop}
-use lib.Seq.{drop-drop}
+use lib.Seq.{drop-drop, take-all}
 use borrow.Author.Tests.{eqb-true, not-false}
 use Rattle.lists.specs.Tests.{pick, allOf, anyOf, indexOf}
-use Rattle.lists.proofs.Laws.{neither, index-bound}
+use Rattle.lists.proofs.Laws.{neither, lt-or-le, index-bound}
 use Rattle.rules.specs.Labels.{period, intoFirst, labels, join}
 use Rattle.rules.specs.Permits.{Permits, labelChar}
 use Rattle.rules.specs.Rules.{unfit}
@@ -43,6 +44,14 @@ labelled (x ∷ xs) = go (period x) refl (labelled xs)
     go true p d = rw (eqb-true x 0x2E p) (cut-on d)
     go false p d = held-on p d
 
+pub some-label : (t : List ℕ) → 1 ≤ length (labels t)
+some-label t = go (labelled t)
+  where
+    go : {t : List ℕ} {ls : List (List ℕ)} → Labelled t ls → 1 ≤ length ls
+    go none = omega arith
+    go (cut d) = omega arith
+    go (held p d) = omega arith
+
 -- ---- joined again, the labels are the text
 
 join-held : (x : ℕ) (l : List ℕ) (ls : List (List ℕ)) → join ((x ∷ l) ∷ ls) ≡ x ∷ join (l ∷ ls)
@@ -58,6 +67,13 @@ joined (held {x = x} {l = l} {ls = ls} p d) = join-held x l ls ∙ ap (λ (t : L
 
 pub join-labels : (t : List ℕ) → join (labels t) ≡ t
 join-labels t = joined (labelled t)
+
+-- a label before those of a text: there is always one, so that a period follows it
+pub join-more : {t : List ℕ} {ls : List (List ℕ)} → Labelled t ls → (f : List ℕ → List ℕ) (a : List ℕ) → join (a ∷ map f ls) ≡ a ++ 0x2E ∷ join (map f ls)
+unfolding join
+join-more none f a = refl
+join-more (cut d) f a = refl
+join-more (held p d) f a = refl
 
 -- ---- what a label holds
 
@@ -140,3 +156,16 @@ module _ (t : List ℕ) (i e : ℕ) (h : i ≤ length t) (s : e ≡ i + indexOf 
         let m : i + (e - i + 1) ≡ e + 1 = omega arith in
         let d : drop (e - i + 1) (drop i t) ≡ drop (e + 1) t = drop-drop (e - i + 1) i t ∙ ap (λ (j : ℕ). drop j t) m in
         first-label (drop i t) (omega (arith, length-drop i t)) ∙ rw (n, d)
+
+  -- the label that begins there
+  abbrev pub here : List ℕ
+  here = take (e - i) (drop i t)
+
+  pub last-here : length t ≤ e → labels (drop i t) ≡ here ∷ []
+  last-here k =
+      let b = ended in
+      last-from k ∙ ap (λ (l : List ℕ). l ∷ []) (sym (take-all (e - i) (drop i t) (omega (arith, length-drop i t))))
+
+  -- it is followed by the labels of what is left, or by none
+  pub by-end : {A : Type 0} → ((rest : List (List ℕ)) → labels (drop i t) ≡ here ∷ rest → A) → A
+  by-end f = ⊎-elim (λ k. f (labels (drop (e + 1) t)) (first-from k)) (λ k. f [] (last-here k)) (lt-or-le e (length t))

@@ -91,9 +91,12 @@ module _ (P : Permits) (L : Laws P) where
   unfolding unfit
   label-fit c e = ap not (or-right (period c) (labelChar P c) e)
 
-  fits : (l r : List ℕ) → allOf (labelChar P) l ≡ true → anyOf (unfit P) r ≡ false → anyOf (unfit P) (l ++ 0x2E ∷ r) ≡ false
+  pub all-fit : (l : List ℕ) → allOf (labelChar P) l ≡ true → anyOf (unfit P) l ≡ false
+  all-fit l w = all-none (labelChar P) (unfit P) label-fit l w
+
+  pub fits : (l r : List ℕ) → allOf (labelChar P) l ≡ true → anyOf (unfit P) r ≡ false → anyOf (unfit P) (l ++ 0x2E ∷ r) ≡ false
   unfolding anyOf unfit period
-  fits l r w e = any-append (unfit P) l (0x2E ∷ r) ∙ rw (all-none (labelChar P) (unfit P) label-fit l w) e
+  fits l r w e = any-append (unfit P) l (0x2E ∷ r) ∙ rw (all-fit l w) e
 
   jp-fits : anyOf (unfit P) (0x6A ∷ 0x70 ∷ []) ≡ false
   unfolding anyOf unfit period labelChar asciiSet alnum within

@@ -4,9 +4,9 @@
 -- Assumes nothing.
 use mathlib.Core.Path.{_≡_, refl, sym, ap, _∙_}
 use mathlib.Core.Bool.{Bool, true, false, not, _||_}
-use mathlib.Core.List.{List, [], _∷_}
+use mathlib.Core.List.{List, []}
 use mathlib.Core.Logic.{_↔_}
-use Prim.Native.Nat.{ℕ, _≤_}
+use Prim.Native.Nat.{ℕ}
 use native.Mathlib.Omega.{arith}
 use lib.Dec.{eqb}
 use lib.ListN.{length, getD}
@@ -15,8 +15,8 @@ use Rattle.lists.specs.Tests.{pick, allOf}
 use Rattle.lists.specs.Rows.{Row, first, without, Clear}
 use Rattle.lists.specs.declared.Answer.{Answer}
 use Rattle.lists.proofs.Tables.{clear, clear-before, past-table, hit, of-rows, only, first-only, first-without, never-given}
-use Rattle.normal.proofs.Laws.{not-twice}
-use Rattle.normal.specs.Normal.{normalForm, normalPlaced, replacedFrom, compose}
+use Rattle.normal.proofs.Laws.{no-longer, not-twice}
+use Rattle.normal.specs.Normal.{normalForm}
 use Rattle.rules.specs.Labels.{labels}
 use Rattle.rules.specs.Permits.{Permits, Laws}
 use Rattle.rules.specs.Rules.{isJapanese, hyphenEdge, short, long, ofName, pretends, labelRows, nameRows, frontRows, textRows, classOf, verdict, rules, rulesBut, accepted, refused, Formed}
@@ -144,16 +144,11 @@ module _ (P : Permits) (L : Laws P) where
       let b = clear-but P text c in
       rw (join-labels (normalForm text)) at (passed-derives P L (labels (normalForm text)) (labels-fit P (normalForm text) (b .0 .fit)) (b .1))
 
-  some-text : (text : List ℕ) → 1 ≤ length (normalForm text) → 1 ≤ length text
-  unfolding normalForm normalPlaced replacedFrom compose
-  some-text [] h = h
-  some-text (x ∷ xs) h = omega arith
-
   -- no derivable name is lost to the limit of 256
   front-passed : {k : Class} (text : List ℕ) → Derives P k (normalForm text) → FrontPassed P text
   front-passed text d =
       let N = named P L d in
-      record { some = some-text text (N .some); few = omega (arith, N .few, not-twice text); fit = N .fit }
+      record { some = omega (arith, N .some, no-longer text); few = omega (arith, N .few, not-twice text); fit = N .fit }
 
   pub before-derives : (text : List ℕ) (k : Class) → (rulesBut 17 P text ≡ accepted k) ↔ Derives P k (normalForm text)
   before-derives text k = (there, back)

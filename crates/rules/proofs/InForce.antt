@@ -4,11 +4,14 @@ use mathlib.Core.Path.{_≡_, refl}
 use mathlib.Core.Bool.{true}
 use mathlib.Core.List.{List, map}
 use mathlib.Core.Logic.{_↔_}
-use Prim.Native.Nat.{ℕ}
+use Prim.Native.Nat.{ℕ, _≤_}
+use lib.ListN.{length}
+use Rattle.lists.specs.Rows.{Clear}
 use Rattle.normal.specs.Normal.{normalForm}
 use Rattle.rules.specs.Rules.{rules, rulesBut, accepted, refused, Sound}
 use Rattle.rules.specs.Grammar.{Derives}
 use Rattle.rules.specs.Pretends.{PRETENDS, Admitted}
+use Rattle.rules.specs.Hosts.{hostTextRows, host}
 use Rattle.rules.specs.Reader.{reader}
 use Rattle.rules.specs.Editions.{today}
 use Rattle.rules.specs.Permits.{Permits}
@@ -18,6 +21,7 @@ use Rattle.rules.specs.Hopeful.{MayBecome, hopeful}
 use Rattle.rules.specs.declared.Class.{Class}
 use Rattle.rules.proofs.ReaderAgrees.{reader-agrees}
 use Rattle.rules.proofs.Exactly.{before-derives, accepted-derives, shrank, refused-17}
+use Rattle.rules.proofs.Hosts.{clear-exactly}
 use Rattle.rules.proofs.Today.{today-laws, today-hope-laws, lending}
 use Rattle.rules.proofs.Hopeful.{hopeful-exactly}
 
@@ -39,6 +43,10 @@ refused-17-today = refused-17 today today-laws
 -- the second reader says yes exactly where a leftmost label is not empty, holds only what it may, and none of 7 to 10 applies
 pub reader-today : (l : List ℕ) → (reader today l ≡ true) ↔ Sound today 3 l
 reader-today = reader-agrees today today-laws
+
+-- none of 2 to 10 and 17 applies to a text as a host exactly where it has at most 256 code points and its normal form derives as one
+pub hosts-today : (text : List ℕ) → Clear (hostTextRows today text) ↔ ((length text ≤ 256) × host today (normalForm text))
+hosts-today = clear-exactly today today-laws
 
 -- a text is hopeful exactly where it may become a name: some continuation of it, the empty one included, is accepted
 pub hopeful-today : (text : List ℕ) → (hopeful today text ≡ true) ↔ MayBecome today text

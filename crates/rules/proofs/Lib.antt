@@ -7,6 +7,7 @@ pub mod ReaderAgrees
 pub mod Derived
 pub mod Pretends
 pub mod Exactly
+pub mod Hosts
 pub mod Today
 pub mod Steps
 pub mod Minus

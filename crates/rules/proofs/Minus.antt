@@ -36,9 +36,13 @@ use Rattle.rules.proofs.Steps.{front-2, front-3, front-4, front-0, text
 -- ---- texts that are replaced alike are judged alike
 
 module _ (P : Permits) (t u : List ℕ) (e : map replace t ≡ map replace u) where
+  front-alike : frontRows P t ≡ frontRows P u
+  unfolding frontRows
+  front-alike = rw (form-alike t u e, places-alike t u e, length-alike t u e)
+
   rows-alike : textRows P t ≡ textRows P u
-  unfolding textRows frontRows
-  rows-alike = rw (form-alike t u e, places-alike t u e, length-alike t u e)
+  unfolding textRows
+  rows-alike = rw (front-alike, form-alike t u e)
 
   rules-alike : rules P t ≡ rules P u
   unfolding rules
@@ -72,6 +76,9 @@ pub minus-form : (t : List ℕ) → normalForm (withHyphens t) ≡ normalForm t
 minus-form t = form-alike (withHyphens t) t (all-replaced t)
 
 module _ (P : Permits) (t : List ℕ) where
+  pub minus-front : frontRows P (withHyphens t) ≡ frontRows P t
+  minus-front = front-alike P (withHyphens t) t (all-replaced t)
+
   pub minus-rows : textRows P (withHyphens t) ≡ textRows P t
   minus-rows = rows-alike P (withHyphens t) t (all-replaced t)
 

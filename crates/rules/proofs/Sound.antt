@@ -1,5 +1,5 @@
 -- A label derives exactly where none of rules 7 to 10 applies to it: grammar and rules ask the same of its two ends, of its length
--- and of its characters.
+-- and of its characters. Where the least is not named, it may be any.
 -- Assumes nothing.
 use mathlib.Core.Path.{_≡_, refl, sym, ap, _∙_}
 use mathlib.Core.Bool.{Bool, true, false, not, _&&_, _||_, false≢true, true≢false, or-false, and-false}
@@ -55,7 +55,7 @@ pub no-hyphen : (P : Permits) → Laws P → (c : ℕ) → jaChar P c ≡ true �
 no-hyphen P L c j = refuted (hyphen c) (λ e. clash j (ascii-not P L c (hyphen-ascii c e)))
 
 -- a letter or a digit is of the ASCII set, and no hyphen; what else is of it is the hyphen
-alnum-ascii : (c : ℕ) → alnum c ≡ true → (asciiSet c ≡ true) × (hyphen c ≡ false)
+pub alnum-ascii : (c : ℕ) → alnum c ≡ true → (asciiSet c ≡ true) × (hyphen c ≡ false)
 unfolding asciiSet hyphen
 alnum-ascii c e = let h = alnum-range c e in (or-left (alnum c) (eqb c 0x2D) e, ne-eqb c 0x2D (omega arith))
 
@@ -74,6 +74,33 @@ ends-snoc (x ∷ y ∷ ys) z = ends-snoc (y ∷ ys) z
 edge-ends : (a : ℕ) (m : List ℕ) (z : ℕ) → hyphenEdge (a ∷ (m ++ (z ∷ []))) ≡ hyphen a || hyphen z
 unfolding hyphenEdge beginsWithHyphen
 edge-ends a m z = ap (λ (b : Bool). hyphen a || b) (ends-snoc (a ∷ m) z)
+
+-- ---- lengths
+
+some-filled : (l : List ℕ) → 1 ≤ length l → isEmpty l ≡ false
+unfolding isEmpty
+some-filled [] h = absurd (omega arith)
+some-filled (x ∷ xs) h = refl
+
+pub filled-some : (l : List ℕ) → isEmpty l ≡ false → 1 ≤ length l
+unfolding isEmpty
+filled-some [] e = absurd (true≢false e)
+filled-some (x ∷ xs) e = omega arith
+
+-- a label that has so many characters is not too short
+pub has-least : (P : Permits) (least : ℕ) (l : List ℕ) → least ≤ length l → short P least l ≡ false
+unfolding short
+has-least P least l h = rw (le-ltb (length l) least h) (and-false (not (isJapanese P l)))
+
+-- so a sound label is sound at any least that it has
+pub at-least : {P : Permits} {n : ℕ} (least : ℕ) {l : List ℕ} → least ≤ length l → Sound P n l → Sound P least l
+at-least {P} least {l} h S =
+    let m = S .meets in
+    record {
+      chars = S .chars;
+      filled = S .filled;
+      meets = record { edge = m .edge; enough = has-least P least l h; few = m .few; dotted = m .dotted };
+    }
 
 module _ (P : Permits) (L : Laws P) where
   -- a character at an end is one that a label may hold, and no hyphen
@@ -144,27 +171,46 @@ module _ (P : Permits) (L : Laws P) where
   unfolding isJapanese
   ascii-only {l} d = all-none asciiSet (jaChar P) (ascii-not P L) l (all-ascii d)
 
+  -- a list of the ASCII set is sound by its ends and its length
+  pub plain-sound : (least : ℕ) (l : List ℕ) → allOf asciiSet l ≡ true → hyphenEdge l ≡ false → 1 ≤ length l → least ≤ length l → length l ≤ 63
+      → Sound P least l
+  unfolding isJapanese long bareDot
+  plain-sound least l w e some enough few = record {
+    chars = all-weaker asciiSet (labelChar P) ascii-label l w;
+    filled = some-filled l some;
+    meets = record {
+      edge = e;
+      enough = has-least P least l enough;
+      few = rw (all-none asciiSet (jaChar P) (ascii-not P L) l w, le-ltb 63 (length l) few);
+      dotted = rw (all-none asciiSet middleDot ascii-no-dot l w);
+    };
+  }
+
   ascii-sound : {l : List ℕ} → G.ASCII-label l → Sound P 3 l
-  unfolding isEmpty short long bareDot
   ascii-sound (G.ascii {a = a} {z = z} {m = m} p r lo hi q) =
       let w : List ℕ = a ∷ (m ++ (z ∷ [])) in
-      let pa = alnum-says a .1 p in
-      let pz = alnum-says z .1 q in
-      let rm : allOf asciiSet m ≡ true = star-all _ _ ascii-says r in
-      let all : allOf asciiSet w ≡ true = all-ascii (G.ascii p r lo hi q) in
-      let no-ja : isJapanese P w ≡ false = ascii-only (G.ascii p r lo hi q) in
       let n : length w ≡ length m + 2 = length-ends a m z in
-      let F = framed a m z (alnum-edge a pa) (all-weaker asciiSet (labelChar P) ascii-label m rm) (alnum-edge z pz) in
-      record {
-        chars = F .chars;
-        filled = refl;
-        meets = record {
-          edge = F .no-edge;
-          enough = rw (no-ja, le-ltb (length w) 3 (omega arith));
-          few = rw (no-ja, le-ltb 63 (length w) (omega arith));
-          dotted = rw (all-none asciiSet middleDot ascii-no-dot w all);
-        };
-      }
+      let e : hyphenEdge w ≡ false = edge-ends a m z ∙ rw (alnum-ascii a (alnum-says a .1 p) .1, alnum-ascii z (alnum-says z .1 q) .1) in
+      plain-sound 3 w (all-ascii (G.ascii p r lo hi q)) e (omega arith) (omega arith) (omega arith)
+
+  -- the parts of a sound label without a Japanese character
+  module _ {least : ℕ} where
+    pub plain-one : (a : ℕ) → Sound P least (a ∷ []) → anyOf (jaChar P) (a ∷ []) ≡ false → G.ALNUM a
+    unfolding allOf anyOf hyphenEdge beginsWithHyphen endsWithHyphen
+    plain-one a S e =
+        let j = neither (jaChar P a) false e in
+        let h = neither (hyphen a) (hyphen a) (S .meets .edge) in
+        alnum-says a .0 (ascii-alnum a (label-ascii a (both (labelChar P a) true (S .chars) .0) (j .0)) (h .0))
+
+    pub plain-ends : (a : ℕ) (m : List ℕ) (z : ℕ) → Sound P least (a ∷ (m ++ (z ∷ []))) → anyOf (jaChar P) (a ∷ (m ++ (z ∷ []))) ≡ false
+        → G.ALNUM a × G.Star G.ALNUM-HYPHEN m × G.ALNUM z
+    plain-ends a m z S e =
+        let w : List ℕ = a ∷ (m ++ (z ∷ [])) in
+        let h = neither (hyphen a) (hyphen z) (sym (edge-ends a m z) ∙ S .meets .edge) in
+        let all = sym (all-ends a m z asciiSet) ∙ all-but (labelChar P) (jaChar P) asciiSet label-ascii w (S .chars) e in
+        let c = both (asciiSet a) _ all in
+        let d = both (allOf asciiSet m) (asciiSet z) (c .1) in
+        (alnum-says a .0 (ascii-alnum a (c .0) (h .0)), all-star _ _ ascii-says m (d .0), alnum-says z .0 (ascii-alnum z (d .1) (h .1)))
 
   pub sound-ascii : {l : List ℕ} → Ends l → Sound P 3 l → anyOf (jaChar P) l ≡ false → G.ASCII-label l
   unfolding isEmpty isJapanese short long
@@ -173,15 +219,10 @@ module _ (P : Permits) (L : Laws P) where
   sound-ascii (pair a m z) S e =
       let w : List ℕ = a ∷ (m ++ (z ∷ [])) in
       let n : length w ≡ length m + 2 = length-ends a m z in
-      let h = neither (hyphen a) (hyphen z) (sym (edge-ends a m z) ∙ S .meets .edge) in
-      let all = sym (all-ends a m z asciiSet) ∙ all-but (labelChar P) (jaChar P) asciiSet label-ascii w (S .chars) e in
-      let c = both (asciiSet a) _ all in
-      let d = both (allOf asciiSet m) (asciiSet z) (c .1) in
+      let p = plain-ends a m z S e in
       let lo : ltb (length w) 3 ≡ false = rw e at (S .meets .enough) in
       let hi : ltb 63 (length w) ≡ false = rw e at (S .meets .few) in
-      G.ascii (alnum-says a .0 (ascii-alnum a (c .0) (h .0))) (all-star _ _ ascii-says m (d .0))
-      (omega (arith, ltb-false (length w) 3 lo)) (omega (arith, ltb-false 63 (length w) hi))
-      (alnum-says z .0 (ascii-alnum z (d .1) (h .1)))
+      G.ascii (p .0) (p .1) (omega (arith, ltb-false (length w) 3 lo)) (omega (arith, ltb-false 63 (length w) hi)) (p .2)
 
   -- ---- the four forms of a Japanese label
 
@@ -292,16 +333,6 @@ module _ (P : Permits) (L : Laws P) where
 
   -- ---- a Japanese label
 
-  some-filled : (l : List ℕ) → 1 ≤ length l → isEmpty l ≡ false
-  unfolding isEmpty
-  some-filled [] h = absurd (omega arith)
-  some-filled (x ∷ xs) h = refl
-
-  filled-some : (l : List ℕ) → isEmpty l ≡ false → 1 ≤ length l
-  unfolding isEmpty
-  filled-some [] e = absurd (true≢false e)
-  filled-some (x ∷ xs) e = omega arith
-
   ja-sound : {l : List ℕ} → G.JA-label P l → Sound P 3 l
   unfolding isJapanese short long
   ja-sound (G.ja-label {l = l} f lo hi x) =
@@ -321,7 +352,7 @@ module _ (P : Permits) (L : Laws P) where
       no-bare true e w = absurd (x (bare-exception l w e))
       no-bare false e w = refl
 
-  sound-ja : (l : List ℕ) → Sound P 3 l → anyOf (jaChar P) l ≡ true → G.JA-label P l
+  pub sound-ja : {least : ℕ} (l : List ℕ) → Sound P least l → anyOf (jaChar P) l ≡ true → G.JA-label P l
   unfolding isJapanese long
   sound-ja l S e =
       let hi : ltb 15 (length l) ≡ false = rw e at (S .meets .few) in

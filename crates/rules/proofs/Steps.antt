@@ -12,12 +12,13 @@ use borrow.Author.Tests.{eq-eqb, ne-eqb, lt-ltb, le-ltb}
 use Rattle.lists.specs.Tests.{anyOf, indexOf, same}
 use Rattle.lists.specs.Rows.{first}
 use Rattle.lists.specs.declared.Answer.{Answer}
-use Rattle.lists.proofs.Tables.{clear, clear-before, refused-before, hit, passed-over}
+use Rattle.lists.proofs.Tables.{clear, stands, hands-on, hit, passed-over}
 use Rattle.characters.specs.Characters.{hyphen}
 use Rattle.normal.specs.Normal.{normalForm, places}
 use Rattle.rules.specs.Labels.{labels}
 use Rattle.rules.specs.Permits.{Permits, middle, isEmpty}
 use Rattle.rules.specs.Rules.{unfit, beginsWithHyphen, endsWithHyphen, hyphenEdge, ofName, labelRows, jp, lastRows, nameRows, frontRows, textRows, classOf, verdict, byLabels, rules, accepted, refused}
+use Rattle.rules.specs.Hosts.{ofHost, eachRows, hostRows, hostTextRows}
 use Rattle.rules.specs.declared.Verdict.{Verdict}
 use Rattle.rules.proofs.ByName.{label-cleared, front-clear, front-cleared}
 
@@ -64,17 +65,13 @@ module _ (P : Permits) (ls : List (List ℕ)) where
       on e = passed-over 5 _ 0 _ (ap not no-5) ∙ passed-over 6 _ _ _ no-6 ∙ e
 
       module _ {a : Answer} (e : a ≡ first (labelRows P ofName (getD ls 0 []) 0)) where
-        number-is : a .number ≡ first (labelRows P ofName (getD ls 0 []) 0) .number
-        number-is = ap (λ (x : Answer). x .number) e
-
         pub name-left : (a .number ≡ 0 → ⊥) → byLabels P ls ≡ refused (a .number) (a .place)
         unfolding verdict
-        name-left h =
-            told (on (refused-before (labelRows P ofName (getD ls 0 []) 0) (lastRows P ls) (λ z. h (number-is ∙ z)) ∙ sym e)) (rw (ne-eqb (a .number) 0 h))
+        name-left h = told (on (stands (labelRows P ofName (getD ls 0 []) 0) (lastRows P ls) (sym e) h)) (rw (ne-eqb (a .number) 0 h))
 
         module _ (z : a .number ≡ 0) where
           past : {b : Answer} → first (lastRows P ls) ≡ b → first (nameRows P ls) ≡ b
-          past f = on (clear-before (labelRows P ofName (getD ls 0 []) 0) (lastRows P ls) (label-cleared P ofName (getD ls 0 []) 0 (sym number-is ∙ z)) ∙ f)
+          past f = on (hands-on (labelRows P ofName (getD ls 0 []) 0) (lastRows P ls) (sym e) (label-cleared P ofName (getD ls 0 []) 0) z ∙ f)
 
           pub name-11 : same (getD ls (length ls - 1) []) jp ≡ false → byLabels P ls ≡ refused 11 0
           unfolding verdict
@@ -113,15 +110,49 @@ module _ (P : Permits) (text : List ℕ) where
   -- ---- what they refuse the rules refuse; else the rules say what 5 to 12 and 17 say of the labels
 
   module _ {a : Answer} (e : first (frontRows P text) ≡ a) where
-    front-number : first (frontRows P text) .number ≡ a .number
-    front-number = ap (λ (x : Answer). x .number) e
-
     pub text-front : (a .number ≡ 0 → ⊥) → rules P text ≡ refused (a .number) (a .place)
     unfolding rules textRows verdict
-    text-front h =
-        ap (λ (x : Answer). verdict x (labels (normalForm text))) (refused-before (frontRows P text) _ (λ z. h (sym front-number ∙ z)) ∙ e)
-        ∙ rw (ne-eqb (a .number) 0 h)
+    text-front h = ap (λ (x : Answer). verdict x (labels (normalForm text))) (stands (frontRows P text) _ e h) ∙ rw (ne-eqb (a .number) 0 h)
 
     pub text-on : a .number ≡ 0 → rules P text ≡ byLabels P (labels (normalForm text))
     unfolding rules textRows
-    text-on z = ap (λ (x : Answer). verdict x (labels (normalForm text))) (clear-before (frontRows P text) _ (front-cleared P text (front-number ∙ z)))
+    text-on z = ap (λ (x : Answer). verdict x (labels (normalForm text))) (hands-on (frontRows P text) _ e (front-cleared P text) z)
+
+    -- and of a host likewise
+    pub host-front : (a .number ≡ 0 → ⊥) → first (hostTextRows P text) ≡ a
+    unfolding hostTextRows
+    host-front h = stands (frontRows P text) _ e h
+
+    pub host-on : a .number ≡ 0 → first (hostTextRows P text) ≡ first (hostRows P (labels (normalForm text)))
+    unfolding hostTextRows
+    host-on z = hands-on (frontRows P text) _ e (front-cleared P text) z
+
+-- ---- the labels of a host: 5, 6, and label by label 7 to 10 and 17
+
+module _ (P : Permits) (ls : List (List ℕ)) where
+  pub host-5 : length ls < 3 → first (hostRows P ls) ≡ record { number = 5; place = 0 }
+  unfolding hostRows
+  host-5 h = hit 5 _ 0 _ (lt-ltb (length ls) 3 h)
+
+  module _ (no-5 : 3 ≤ length ls) where
+    pub host-6 : anyOf isEmpty ls ≡ true → first (hostRows P ls) ≡ record { number = 6; place = indexOf isEmpty ls }
+    unfolding hostRows
+    host-6 e = passed-over 5 _ 0 _ (le-ltb (length ls) 3 no-5) ∙ hit 6 _ _ _ e
+
+    pub host-each : anyOf isEmpty ls ≡ false → first (hostRows P ls) ≡ first (eachRows P 0 ls)
+    unfolding hostRows
+    host-each e = passed-over 5 _ 0 _ (le-ltb (length ls) 3 no-5) ∙ passed-over 6 _ _ _ e
+
+module _ (P : Permits) (i : ℕ) (l : List ℕ) (ls : List (List ℕ)) {a : Answer} (e : a ≡ first (labelRows P ofHost l i)) where
+  pub each-stops : (a .number ≡ 0 → ⊥) → first (eachRows P i (l ∷ ls)) ≡ a
+  unfolding eachRows
+  each-stops h = stands (labelRows P ofHost l i) _ (sym e) h
+
+  pub each-on : a .number ≡ 0 → first (eachRows P i (l ∷ ls)) ≡ first (eachRows P (suc i) ls)
+  unfolding eachRows
+  each-on z = hands-on (labelRows P ofHost l i) _ (sym e) (label-cleared P ofHost l i) z
+
+-- past the last label nothing is refused
+pub each-0 : (P : Permits) (i : ℕ) → first (eachRows P i []) ≡ record { number = 0; place = 0 }
+unfolding eachRows first
+each-0 P i = refl

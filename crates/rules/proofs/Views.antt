@@ -1,4 +1,4 @@
--- A list by its parts: cut at an entry of which a test holds, or taken by its two ends.
+-- A list by its parts: cut at an entry of which a test holds, taken by its two ends, or entry by entry.
 -- Assumes nothing.
 use mathlib.Core.Path.{_≡_, refl, ap, _∙_}
 use mathlib.Core.Bool.{Bool, true, false, _&&_, _||_, false≢true, or-false, and-true}
@@ -39,6 +39,11 @@ longer x (pair a m z) = pair x (a ∷ m) z
 pub ends : {A : Type 0} (l : List A) → Ends l
 ends [] = empty
 ends (x ∷ xs) = longer x (ends xs)
+
+-- R of every entry
+pub data Every {A : Type 0} (R : A → Type 0) : List A → Type 0 where
+  none : Every R []
+  also : {x : A} {xs : List A} → R x → Every R xs → Every R (x ∷ xs)
 
 module _ {A : Type 0} (a : A) (m : List A) (z : A) where
   pub all-ends : (f : A → Bool) → allOf f (a ∷ (m ++ (z ∷ []))) ≡ f a && (allOf f m && f z)

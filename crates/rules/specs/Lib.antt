@@ -3,6 +3,7 @@ pub mod Permits
 pub mod Grammar
 pub mod Pretends
 pub mod Rules
+pub mod Hosts
 pub mod Reader
 pub mod Prefectures
 pub mod Editions

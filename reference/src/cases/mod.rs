@@ -4,7 +4,9 @@
 pub mod characters;
 pub mod coder;
 pub mod desk;
+pub mod forms;
 pub mod hope;
+pub mod hosts;
 pub mod kinds;
 pub mod labels;
 pub mod lines;
@@ -123,5 +125,7 @@ pub fn all_lines() -> Vec<String> {
     lists::add(&mut file);
     octets::add(&mut file);
     labels::add(&mut file);
+    hosts::add(&mut file);
+    forms::add(&mut file);
     file.into_lines()
 }

@@ -296,13 +296,15 @@ fn order_of_checks(file: &mut CaseFile) {
     }
 }
 
-/// Names whose Japanese label has about the longest encoded form there is:
-/// 58 and 59 octets. No accepted name comes to 64 (see tests/bound.rs).
+/// Japanese labels with about the longest encoded form there is: 58 and 59
+/// octets. No accepted name comes to 64 (see tests/bound.rs).
+pub const LONG_FORMS: [&str; 2] = [
+    "\u{798E}\u{864E}\u{4ED6}\u{798A}\u{643A}\u{6413}\u{9B25}\u{5BF3}\u{6CAB}\u{690B}\u{4E38}\u{68E7}\u{5C20}\u{9262}\u{3089}",
+    "\u{9039}\u{4F0F}\u{61C8}\u{69C7}\u{71ED}\u{5B75}\u{708E}\u{30CE}\u{7949}\u{6249}\u{82FA}\u{6919}\u{5BB4}\u{4F5B}\u{9F3E}",
+];
+
 fn long_forms(file: &mut CaseFile) {
-    for label in [
-        "\u{798E}\u{864E}\u{4ED6}\u{798A}\u{643A}\u{6413}\u{9B25}\u{5BF3}\u{6CAB}\u{690B}\u{4E38}\u{68E7}\u{5C20}\u{9262}\u{3089}",
-        "\u{9039}\u{4F0F}\u{61C8}\u{69C7}\u{71ED}\u{5B75}\u{708E}\u{30CE}\u{7949}\u{6249}\u{82FA}\u{6919}\u{5BB4}\u{4F5B}\u{9F3E}",
-    ] {
+    for label in LONG_FORMS {
         file.label(&points(label));
         for tail in [".jp", ".kagoshima.jp", ".\u{9E7F}\u{5150}\u{5CF6}.jp"] {
             file.text(&points(&format!("{label}{tail}")));

@@ -84,7 +84,7 @@ impl Default for NameMaker {
 }
 
 impl NameMaker {
-    fn label(&self, random: &mut Random) -> Vec<u32> {
+    pub fn label(&self, random: &mut Random) -> Vec<u32> {
         let japanese = !random.once_in(4);
         let length = match (japanese, random.once_in(12)) {
             (true, true) => random.between(13, 17),

@@ -1,0 +1,5 @@
+mod Forming
+pub mod OfNames
+pub mod Coded
+pub mod Joining
+pub mod Unique

@@ -1,0 +1,39 @@
+-- The ASCII form of one label, whatever it holds, and what the call for it answers: document 01, 'Numbers a call may
+-- answer' and 'Coder and decoder'.
+use mathlib.Core.Bool.{Bool, not, _&&_}
+use mathlib.Core.List.{List, [], _∷_}
+use mathlib.Core.Path.{_≡_}
+use Prim.Native.Nat.{ℕ}
+use lib.Dec.{leb, ltb}
+use lib.ListN.{length}
+use Rattle.lists.specs.Tests.{pick, anyOf}
+use Rattle.lists.specs.Front.{written}
+use Rattle.lists.specs.Rows.{Row, row, first, given}
+use Rattle.lists.specs.declared.Answer.{Answer}
+use Rattle.punycode.specs.Punycode.{ace, encodable}
+use Rattle.punycode.specs.Calls.{labelRoom}
+use Rattle.ascii.specs.declared.LabelForm.{LabelForm}
+
+-- past ASCII
+unfoldable pub high : ℕ → Bool
+high c = leb 0x80 c
+
+-- encoded where it holds a code point of 80 or more, else as it is
+unfoldable pub labelForm : List ℕ → List ℕ
+labelForm l = pick (anyOf high l) (ace l) l
+
+-- 1: the buffer is too short; 13: it is to be encoded and cannot; 14: its form has over 63 octets
+unfoldable pub formRows : List ℕ → ℕ → List Row
+formRows l room =
+    row 1 (ltb room labelRoom) 0 ∷
+    row 13 (anyOf high l && not (encodable l)) 0 ∷
+    row 14 (ltb labelRoom (length (labelForm l))) 0 ∷
+    []
+
+-- number and place, and the length of what is written
+abbrev pub formed : Answer → List ℕ → LabelForm
+formed a xs = record { number = a .number; place = a .place; length = length xs }
+
+pub record Forms (l before after : List ℕ) (r : LabelForm) : Type 0 where
+  pub result : r ≡ formed (first (formRows l (length before))) (given (first (formRows l (length before))) (labelForm l))
+  pub buffer : after ≡ written (given (first (formRows l (length before))) (labelForm l)) before

@@ -1,0 +1,3 @@
+pub mod Hosts
+pub mod Steps
+pub mod Tried

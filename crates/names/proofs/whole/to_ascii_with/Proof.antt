@@ -1,0 +1,78 @@
+-- `to_ascii_with` meets its contract: 1, then as any name, or as the usual name where it is one.
+-- Assumes nothing.
+use mathlib.Core.Path.{sym, _∙_}
+use native.Mathlib.Omega.{arith}
+use borrow.Author.Tests.{not-false}
+use Rattle.names.proofs.Answering.{ascii-no-room}
+use Rattle.names.proofs.UsualName.{ending-sizes, usual-label, as-text}
+use borrow.Author.Needs.{needs}
+use Rattle.names.proofs.whole.to_ascii_with.Statement.{statement}
+use Rattle.names.proofs.whole.to_ascii_with.Tie as tie
+
+refused-form-requires : tie.Need-refused-form-requires
+refused-form-requires c κs = search needs
+
+returns : tie.Need-returns
+returns c = ascii-no-room _ _ _ (c .refused-form .ensures) (c .before .if1 .taken)
+
+ends-in-jp-requires : tie.Need-ends-in-jp-requires
+ends-in-jp-requires c κs = search needs
+
+any-name-requires : tie.Need-any-name-requires
+any-name-requires c κs = search needs
+
+same-length : tie.Need-same-length
+same-length c = search needs
+
+returns-2 : tie.Need-returns-2
+returns-2 c = search needs
+
+sub-n : tie.Need-sub-n
+sub-n c = let s = ending-sizes _ (sym (c .before .ends-in-jp .ensures) ∙ not-false _ (c .if2 .left)) in omega arith
+
+sub-all-in-label : tie.Need-sub-all-in-label
+sub-all-in-label c = search needs
+
+part-all-in-label-start : tie.Need-part-all-in-label-start
+part-all-in-label-start c = search needs
+
+part-all-in-label-end : tie.Need-part-all-in-label-end
+part-all-in-label-end c = search needs
+
+all-in-label-requires : tie.Need-all-in-label-requires
+all-in-label-requires c κs = search needs
+
+any-name-requires-2 : tie.Need-any-name-requires-2
+any-name-requires-2 c κs = search needs
+
+same-length-2 : tie.Need-same-length-2
+same-length-2 c = search needs
+
+returns-3 : tie.Need-returns-3
+returns-3 c = search needs
+
+sub-usual-name : tie.Need-sub-usual-name
+sub-usual-name c = search needs
+
+part-usual-name-start : tie.Need-part-usual-name-start
+part-usual-name-start c = search needs
+
+part-usual-name-end : tie.Need-part-usual-name-end
+part-usual-name-end c = search needs
+
+usual-name-requires : tie.Need-usual-name-requires
+usual-name-requires c κs = (usual-label _ (sym (c .before .before .before .before .before .before .ends-in-jp .ensures) ∙ not-false _ (c .before .before .before .before .before .if2 .left)) _ (sym (c .before .before .before .all-in-label .ensures) ∙ not-false _ (c .before .before .if3 .left)), c .before .before .before .before .before .before .before .if1 .left)
+
+same-length-3 : tie.Need-same-length-3
+same-length-3 c = search needs
+
+returns-4 : tie.Need-returns-4
+returns-4 c = as-text _ (sym (c .before .before .before .before .before .before .before .before .before .ends-in-jp .ensures) ∙ not-false _ (c .before .before .before .before .before .before .before .before .if2 .left)) _ (c .before .before .usual-name .ensures)
+
+pub to-ascii-with-spec : {M : Type 1} → statement M
+to-ascii-with-spec =
+    tie.close
+    (tie.spec refused-form-requires returns ends-in-jp-requires any-name-requires same-length returns-2 sub-n
+    sub-all-in-label part-all-in-label-start part-all-in-label-end all-in-label-requires any-name-requires-2
+    same-length-2 returns-3 sub-usual-name part-usual-name-start part-usual-name-end usual-name-requires same-length-3
+    returns-4)
