@@ -69,21 +69,21 @@ form P text = asciiForm P (normalForm text)
 module _ (P : Permits) (text : List ℕ) {before after : List ℕ} {r : AsciiForm} (A : Answers asciiFormed (asciiRows P text 192) text (form P text) before after r) where
   says-number : r .number ≡ told P text .number
   unfolding verdict
-  says-number = ap (λ (x : AsciiForm). x .number) (A .result)
+  says-number = ap (λ (x : AsciiForm). x .number) (A .gives .result)
 
   says-place : r .place ≡ told P text .place
   unfolding verdict
-  says-place = ap (λ (x : AsciiForm). x .place) (A .result)
+  says-place = ap (λ (x : AsciiForm). x .place) (A .gives .result)
 
   says-length : r .length ≡ length (given (told P text) (form P text))
-  says-length = ap (λ (x : AsciiForm). x .length) (A .result)
+  says-length = ap (λ (x : AsciiForm). x .length) (A .gives .result)
 
   -- what was written had room
   had-room : length after ≡ length before → r .length ≤ length before
   unfolding written
   had-room e =
       let g : List ℕ = given (told P text) (form P text) in
-      omega (arith, says-length, ap length (A .buffer) ∙ length-append g (drop (length g) before), e)
+      omega (arith, says-length, ap length (A .gives .buffer) ∙ length-append g (drop (length g) before), e)
 
   module _ (id : List ℕ) where
     with-form : (l : List ℕ) → l ≡ pick (eqb (told P text .number) 0) (form P text) (0x2D ∷ [])
@@ -91,7 +91,7 @@ module _ (P : Permits) (text : List ℕ) {before after : List ℕ} {r : AsciiFor
     unfolding goodAnswer
     with-form l e =
         let v : Verdict = verdict (told P text) (labels (normalForm text)) in
-        ap (λ (x : AsciiForm). answerLine id (x .number) (x .place) (x .class) l) (A .result)
+        ap (λ (x : AsciiForm). answerLine id (x .number) (x .place) (x .class) l) (A .gives .result)
         ∙ ap (λ (k : List ℕ). answerLine id (v .number) (v .place) (v .class) k) e
 
     accepted-line : r .number ≡ 0 → answerLine id 0 0 (r .class) (form P text) ≡ goodAnswer P id text
@@ -145,7 +145,7 @@ module _ (P : Permits) (id text out : List ℕ) {after : List ℕ} {r : AsciiFor
       let long : r .length ≡ length f = says-length P text said ∙ ap length all in
       let at : c ≡ start = omega (arith, front-zero id, x .place, y .place, w .place) in
       let placed : Puts f out back c (c + r .length) =
-      rw (long, at) (put-lent start k out after f (omega arith) (omega (arith, form-fits, long)) (said .buffer ∙ ap (λ (s : List ℕ). written s (take k (drop start out))) all)) in
+      rw (long, at) (put-lent start k out after f (omega arith) (omega (arith, form-fits, long)) (said .gives .buffer ∙ ap (λ (s : List ℕ). written s (take k (drop start out))) all)) in
       rw (← accepted-line P text said id z, ← el) (then (ahead placed (then (then x y) w)) v)
 
   pub refused-puts : (r .number ≡ 0 → ⊥) → {b : List ℕ} {n : ℕ} → Puts (answerLine id (r .number) (r .place) (r .class) (0x2D ∷ [])) back b 0 n
@@ -153,6 +153,6 @@ module _ (P : Permits) (id text out : List ℕ) {after : List ℕ} {r : AsciiFor
   unfolding written
   refused-puts z x =
       let none : after ≡ take k (drop start out) =
-      said .buffer ∙ ap (λ (s : List ℕ). written s (take k (drop start out))) (given-none (told P text) (form P text) (λ e. z (says-number P text said ∙ e))) in
+      said .gives .buffer ∙ ap (λ (s : List ℕ). written s (take k (drop start out))) (given-none (told P text) (form P text) (λ e. z (says-number P text said ∙ e))) in
       let kept : back ≡ out = ap (λ (l : List ℕ). take start out ++ (l ++ drop k (drop start out))) none ∙ ap (λ (l : List ℕ). take start out ++ l) (take-append-drop k (drop start out)) ∙ take-append-drop start out in
       rw (← refused-line P text said id z) (rw kept at x)

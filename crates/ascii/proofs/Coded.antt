@@ -10,7 +10,7 @@ use native.Mathlib.Omega.{arith}
 use lib.Dec.{eqb, leb, ltb}
 use lib.ListN.{length}
 use borrow.Author.Tests.{le-leb, lt-ltb}
-use Rattle.lists.specs.Tests.{within, allOf, anyOf}
+use Rattle.lists.specs.Tests.{within, allOf}
 use Rattle.lists.proofs.Laws.{or-left, or-right, either, inside, outside, in-range, all-weaker, any-weaker, any-some}
 use Rattle.characters.specs.Characters.{alnum, hyphen, asciiSet}
 use Rattle.punycode.specs.Punycode.{ace, ldh, wide, allowed, encodable}

@@ -2,25 +2,24 @@
 -- decide; so what it answers and writes is what the rows say.
 -- Assumes nothing.
 use mathlib.Core.Path.{_≡_, refl, sym, ap, _∙_}
-use mathlib.Core.Bool.{Bool, true, false, not, _&&_}
+use mathlib.Core.Bool.{Bool, true, false, not}
 use mathlib.Core.List.{List, [], _∷_, _++_}
 use Prim.Native.Nat.{ℕ, zero, suc, _≤_, _<_}
 use native.Mathlib.Omega.{arith}
-use lib.Dec.{eqb, leb, ltb}
+use lib.Dec.{leb, ltb}
 use lib.ListN.{length, take, drop, getD}
 use lib.Seq.{take-all}
-use borrow.Author.Tests.{lt-ltb, le-ltb, leb-true, leb-false, eq-eqb, ne-eqb}
+use borrow.Author.Tests.{lt-ltb, le-ltb, leb-true, leb-false}
 use Rattle.lists.specs.Tests.{pick, anyOf}
 use Rattle.lists.specs.Front.{written}
 use Rattle.lists.specs.Rows.{first, given}
 use Rattle.lists.specs.declared.Answer.{Answer}
-use Rattle.lists.proofs.Fronts.{untouched}
 use Rattle.lists.proofs.Laws.{neither}
-use Rattle.lists.proofs.Tables.{clear, hit, passed-over, given-all, given-none}
+use Rattle.lists.proofs.Tables.{clear, hit, passed-over, gives-no, gives-yes}
 use Rattle.punycode.specs.Punycode.{ace, encodable}
 use Rattle.punycode.specs.Calls.{coderNumber, coderWrites, Encodes}
 use Rattle.punycode.specs.declared.Encoded.{Encoded}
-use Rattle.ascii.specs.Labels.{high, labelForm, formRows, formed, Forms}
+use Rattle.ascii.specs.Labels.{high, labelForm, formRows, labelFormed, Forms}
 use Rattle.ascii.specs.declared.LabelForm.{LabelForm}
 
 -- ---- a label of code points below 80
@@ -38,12 +37,6 @@ all-put out₀ out l i h g e = let n : i ≡ length l = omega arith in e ∙ rw 
 -- ---- what is answered
 
 module _ (l before : List ℕ) where
-  refused-as : {a : Answer} → first (formRows l (length before)) ≡ a → (a .number ≡ 0 → ⊥) → a .place ≡ 0
-      → {r : LabelForm} → r ≡ record { number = a .number; place = 0; length = 0 } → Forms l before before r
-  refused-as {a} e h p q =
-      let none = given-none a (labelForm l) h in
-      record { result = q ∙ rw (e, none, p); buffer = rw (e, none) (sym (untouched before)) }
-
   -- the coder's answer is that of the rows
   module _ (w : anyOf high l ≡ true) where
     form-is : labelForm l ≡ ace l
@@ -69,7 +62,8 @@ module _ (l before : List ℕ) where
 
     pub by-coder : {after : List ℕ} {k : Encoded} → Encodes l before after k
         → Forms l before after (record { number = k .number; place = k .place; length = k .length })
-    by-coder E = record { result = rw (writes-are, rows-say, E .answer); buffer = E .buffer ∙ ap (λ (xs : List ℕ). written xs before) (sym writes-are) }
+    by-coder E =
+        record { gives = record { result = rw (writes-are, rows-say, E .answer); buffer = E .buffer ∙ ap (λ (xs : List ℕ). written xs before) (sym writes-are) } }
 
   module _ (w : anyOf high l ≡ false) where
     pub low-form : labelForm l ≡ l
@@ -78,19 +72,20 @@ module _ (l before : List ℕ) where
 
     pub no-room : {r : LabelForm} → length before < 63 → r ≡ record { number = 1; place = 0; length = 0 } → Forms l before before r
     unfolding formRows
-    no-room h q = refused-as (hit 1 _ 0 _ (lt-ltb (length before) 63 h)) (λ z. omega arith) refl q
+    no-room h q = record { gives = gives-no labelFormed _ _ before (hit 1 _ 0 _ (lt-ltb (length before) 63 h)) (λ z. omega arith) q }
 
     module _ (h : 63 ≤ length before) where
       pub too-long : {r : LabelForm} → 63 < length l → r ≡ record { number = 14; place = 0; length = 0 } → Forms l before before r
       unfolding formRows
       too-long g q =
-          refused-as
-          (passed-over 1 _ 0 _ (le-ltb (length before) 63 h) ∙ passed-over 13 _ 0 _ (rw w)
-          ∙ hit 14 _ 0 _ (lt-ltb 63 (length (labelForm l)) (omega (arith, ap length low-form)))) (λ z. omega arith) refl q
+          record {
+            gives = gives-no labelFormed _ _ before
+                (passed-over 1 _ 0 _ (le-ltb (length before) 63 h) ∙ passed-over 13 _ 0 _ (rw w)
+                ∙ hit 14 _ 0 _ (lt-ltb 63 (length (labelForm l)) (omega (arith, ap length low-form)))) (λ z. omega arith) q;
+          }
 
       pub as-it-is : {after : List ℕ} → length l ≤ 63 → after ≡ written l before → Forms l before after (record { number = 0; place = 0; length = length l })
       unfolding formRows
       as-it-is g e =
           let none = clear (formRows l (length before)) (le-ltb (length before) 63 h, (rw w, (le-ltb 63 (length (labelForm l)) (omega (arith, ap length low-form)), tt))) in
-          let all = given-all (record { number = 0; place = 0 }) (labelForm l) refl ∙ low-form in
-          record { result = rw (none, all); buffer = e ∙ rw (none, all) }
+          record { gives = gives-yes labelFormed _ _ before none (sym (ap length low-form)) (e ∙ ap (λ (xs : List ℕ). written xs before) (sym low-form)) }

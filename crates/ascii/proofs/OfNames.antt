@@ -8,20 +8,19 @@ use Prim.Native.Nat.{ℕ, _≤_}
 use native.Mathlib.Omega.{arith}
 use lib.Dec.{eqb, leb}
 use lib.ListN.{length}
-use borrow.Author.Tests.{le-leb, lt-leb, leb-true, le-ltb, eq-eqb, eqb-true, not-true, not-false}
+use borrow.Author.Tests.{le-leb, lt-leb, leb-true, le-ltb, eqb-true, not-true, not-false}
 use Rattle.lists.specs.Tests.{pick, allOf, anyOf}
 use Rattle.lists.specs.Front.{written}
-use Rattle.lists.specs.Rows.{first, given}
+use Rattle.lists.specs.Rows.{first}
 use Rattle.lists.specs.declared.Answer.{Answer}
-use Rattle.lists.proofs.Fronts.{untouched}
 use Rattle.lists.proofs.Laws.{both, in-range, all-none, all-but, any-weaker}
-use Rattle.lists.proofs.Tables.{clear, given-all, given-none}
+use Rattle.lists.proofs.Tables.{clear, gave-all, gave-none}
 use Rattle.punycode.specs.Punycode.{ace, encodable}
 use Rattle.punycode.specs.Calls.{coderNumber}
 use Rattle.rules.specs.Permits.{Permits, InStretch, jaChar, labelChar}
 use Rattle.rules.specs.Rules.{isJapanese}
 use Rattle.rules.proofs.Sound.{ascii-range}
-use Rattle.ascii.specs.Labels.{high, labelForm, formRows, Forms}
+use Rattle.ascii.specs.Labels.{high, labelForm, formRows, labelFormed, Forms}
 use Rattle.ascii.specs.Ascii.{asciiLabel, uncoded, writable}
 use Rattle.ascii.specs.declared.LabelForm.{LabelForm}
 use Rattle.ascii.proofs.Forming.{rows-say, low-form}
@@ -105,7 +104,7 @@ module _ (P : Permits) (stretch : InStretch P) {l before after : List ℕ} {r : 
   form-is = rw high-here
 
   number-is : r .number ≡ first (formRows l (length before)) .number
-  number-is = ap (λ (x : LabelForm). x .number) (F .result)
+  number-is = ap (λ (x : LabelForm). x .number) (F .gives .result)
 
   rows-number : eqb (first (formRows l (length before)) .number) 0 ≡ not (uncoded P l)
   unfolding uncoded formRows
@@ -126,10 +125,8 @@ module _ (P : Permits) (stretch : InStretch P) {l before after : List ℕ} {r : 
 
   pub gave : r .number ≡ 0 → (r .length ≡ length (asciiLabel P l)) × (after ≡ written (asciiLabel P l) before)
   gave z =
-      let all = given-all (first (formRows l (length before))) (labelForm l) (sym number-is ∙ z) ∙ form-is in
-      (ap (λ (x : LabelForm). x .length) (F .result) ∙ ap length all, F .buffer ∙ ap (λ (xs : List ℕ). written xs before) all)
+      let g = gave-all labelFormed _ _ before (F .gives) (sym number-is ∙ z) in
+      (ap (λ (x : LabelForm). x .length) (g .1) ∙ ap length form-is, g .0 ∙ ap (λ (xs : List ℕ). written xs before) form-is)
 
   pub kept : (r .number ≡ 0 → ⊥) → after ≡ before
-  kept h =
-      F .buffer ∙ ap (λ (xs : List ℕ). written xs before) (given-none (first (formRows l (length before))) (labelForm l) (λ z. h (number-is ∙ z)))
-      ∙ untouched before
+  kept h = gave-none labelFormed _ _ before (F .gives) (λ z. h (number-is ∙ z)) .0

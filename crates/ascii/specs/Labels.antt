@@ -2,13 +2,11 @@
 -- answer' and 'Coder and decoder'.
 use mathlib.Core.Bool.{Bool, not, _&&_}
 use mathlib.Core.List.{List, [], _∷_}
-use mathlib.Core.Path.{_≡_}
 use Prim.Native.Nat.{ℕ}
 use lib.Dec.{leb, ltb}
 use lib.ListN.{length}
 use Rattle.lists.specs.Tests.{pick, anyOf}
-use Rattle.lists.specs.Front.{written}
-use Rattle.lists.specs.Rows.{Row, row, first, given}
+use Rattle.lists.specs.Rows.{Row, row, Gives}
 use Rattle.lists.specs.declared.Answer.{Answer}
 use Rattle.punycode.specs.Punycode.{ace, encodable}
 use Rattle.punycode.specs.Calls.{labelRoom}
@@ -30,10 +28,8 @@ formRows l room =
     row 14 (ltb labelRoom (length (labelForm l))) 0 ∷
     []
 
--- number and place, and the length of what is written
-abbrev pub formed : Answer → List ℕ → LabelForm
-formed a xs = record { number = a .number; place = a .place; length = length xs }
+abbrev pub labelFormed : Answer → ℕ → LabelForm
+labelFormed a n = record { number = a .number; place = a .place; length = n }
 
 pub record Forms (l before after : List ℕ) (r : LabelForm) : Type 0 where
-  pub result : r ≡ formed (first (formRows l (length before))) (given (first (formRows l (length before))) (labelForm l))
-  pub buffer : after ≡ written (given (first (formRows l (length before))) (labelForm l)) before
+  pub gives : Gives labelFormed (formRows l (length before)) (labelForm l) before after r

@@ -2,20 +2,19 @@
 -- which 4 speaks. With room these answers are what the rows 2 to 4 say, and the buffer holds what is shown of the text.
 -- Assumes nothing.
 use mathlib.Core.Path.{_≡_, refl, sym, ap, _∙_}
-use mathlib.Core.Bool.{Bool, true, false, _&&_}
-use mathlib.Core.List.{List, [], _∷_, _++_}
+use mathlib.Core.Bool.{true, false}
+use mathlib.Core.List.{List, [], _∷_}
 use mathlib.Core.Logic.{⊎-elim}
 use Prim.Native.Nat.{ℕ, zero, suc, _-_, _≤_, _<_}
 use native.Mathlib.Omega.{arith}
 use lib.Dec.{eqb, ltb}
 use lib.ListN.{length, take, drop, getD, length-append}
-use borrow.Author.Tests.{eq-eqb, ne-eqb, eqb-false, lt-ltb, le-ltb, ltb-false}
+use borrow.Author.Tests.{ne-eqb, le-ltb, ltb-false}
 use Rattle.lists.specs.Tests.{allOf, anyOf, indexOf}
 use Rattle.lists.specs.Front.{written}
-use Rattle.lists.specs.Rows.{Row, row, accepted, first, given, Clear}
+use Rattle.lists.specs.Rows.{Row, row, accepted, first, Clear}
 use Rattle.lists.specs.declared.Answer.{Answer}
-use Rattle.lists.proofs.Fronts.{untouched}
-use Rattle.lists.proofs.Laws.{both, clash, lt-or-le}
+use Rattle.lists.proofs.Laws.{lt-or-le}
 use Rattle.lists.proofs.Scan.{found, not-found}
 use Rattle.lists.proofs.Tables.{clear, clear-before, refused-before, hit, passed-over, refusing, accepted-clear, given-all, given-none}
 use Rattle.normal.specs.Normal.{normalForm, places}

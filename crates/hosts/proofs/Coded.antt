@@ -4,7 +4,7 @@
 use mathlib.Core.Path.{_≡_, refl, sym, ap, _∙_}
 use mathlib.Core.Bool.{Bool, true, false, not}
 use mathlib.Core.List.{List, [], _∷_}
-use Prim.Native.Nat.{ℕ, suc}
+use Prim.Native.Nat.{ℕ}
 use native.Mathlib.Omega.{arith}
 use lib.Dec.{eqb, ltb}
 use lib.ListN.{length}
@@ -28,7 +28,7 @@ use Rattle.rules.proofs.Hosts as Hosts
 use Rattle.rules.proofs.Today.{today-laws}
 use Rattle.ascii.specs.Ascii.{uncoded}
 use Rattle.ascii.proofs.Coded.{label-fine}
-use Rattle.hosts.specs.Hosts.{codedRows, rows, hostRules, formRows, HostForms}
+use Rattle.hosts.specs.Hosts.{codedRows, rows, hostRules, callRows, HostForms}
 use Rattle.hosts.specs.declared.HostForm.{HostForm}
 
 -- ---- a law of each label
@@ -74,11 +74,11 @@ module _ (P : Permits) where
 
     -- and of no text does the call answer 14
     pub form-never-14 : {before after : List ℕ} {r : HostForm} → HostForms P text before after r → r .number ≡ 14 → ⊥
-    unfolding formRows hostRules only
+    unfolding callRows hostRules only
     form-never-14 {before} F e =
         of-two (λ (a : Answer). a .number ≡ 14 → ⊥) (row 1 (ltb (length before) 255) 0 ∷ []) (rows P text)
         (never-given 14 (λ z. omega arith) (row 1 (ltb (length before) 255) 0 ∷ []) tt) never-14
-        (sym (ap (λ (x : HostForm). x .number) (F .result)) ∙ e)
+        (sym (ap (λ (x : HostForm). x .number) (F .gives .result)) ∙ e)
 
 -- ---- at the edition in force
 

@@ -1,14 +1,14 @@
 -- The octets of a host's ASCII form are counted before they are written: at each turn what is counted with what is left is the whole, so the
 -- count at the end is that of the joined form, and by it 19 is decided.
 -- Assumes nothing.
-use mathlib.Core.Path.{_≡_, refl, sym, ap, _∙_}
-use mathlib.Core.Bool.{Bool, true, false, not}
-use mathlib.Core.List.{List, [], _∷_, _++_, map}
+use mathlib.Core.Path.{_≡_, sym, ap, _∙_}
+use mathlib.Core.Bool.{true, false, not}
+use mathlib.Core.List.{List, [], _∷_, map}
 use Prim.Native.Nat.{ℕ, _+_, _*_, _≤_, _<_}
 use native.Mathlib.Omega.{arith}
 use lib.ListN.{length, drop, length-append}
 use borrow.Author.Tests.{not-true, not-false}
-use Rattle.lists.specs.Tests.{allOf, anyOf, indexOf}
+use Rattle.lists.specs.Tests.{allOf, indexOf}
 use Rattle.lists.specs.Rows.{first}
 use Rattle.lists.specs.declared.Answer.{Answer}
 use Rattle.lists.proofs.Laws.{both}

@@ -11,8 +11,7 @@ use borrow.Author.Tests.{le-ltb}
 use Rattle.lists.specs.Front.{written}
 use Rattle.lists.specs.Rows.{first}
 use Rattle.lists.specs.declared.Answer.{Answer}
-use Rattle.lists.proofs.Fronts.{untouched}
-use Rattle.lists.proofs.Tables.{passed-over, given-all, given-none}
+use Rattle.lists.proofs.Tables.{passed-over, gave-all, gave-none}
 use Rattle.normal.specs.Normal.{normalForm}
 use Rattle.rules.specs.Permits.{Permits, Laws}
 use Rattle.rules.specs.Hosts.{hostTextRows}
@@ -21,41 +20,35 @@ use Rattle.rules.proofs.Minus.{withHyphens, minus-length, minus-form, minus-fro
 use Rattle.rules.proofs.Today.{today-laws}
 use Rattle.fronts.specs.Fronts.{shown}
 use Rattle.ascii.specs.Ascii.{asciiForm}
-use Rattle.hosts.specs.Hosts.{rows, hostRules, HostGranted, hostJudged, formRows, writes, HostForms}
+use Rattle.hosts.specs.Hosts.{rows, hostRules, HostGranted, hostJudged, callRows, hostFormed, HostForms}
 use Rattle.hosts.specs.declared.HostForm.{HostForm}
 use Rattle.hosts.proofs.Exactly.{number-granted}
 
 module _ (P : Permits) {text before after : List ℕ} {r : HostForm} (F : HostForms P text before after r) where
   abbrev said : Answer
-  said = first (formRows P text (length before))
+  said = first (callRows P text (length before))
 
   number-is : r .number ≡ said .number
-  number-is = ap (λ (x : HostForm). x .number) (F .result)
+  number-is = ap (λ (x : HostForm). x .number) (F .gives .result)
 
   -- ---- what is written
 
   pub host-written : r .number ≡ 0 → (after ≡ written (asciiForm P (normalForm text)) before) × (r .length ≡ length (asciiForm P (normalForm text)))
-  unfolding writes
-  host-written z =
-      let all = given-all said (asciiForm P (normalForm text)) (sym number-is ∙ z) in
-      (F .buffer ∙ ap (λ (xs : List ℕ). written xs before) all, ap (λ (x : HostForm). x .length) (F .result) ∙ ap length all)
+  host-written z = let g = gave-all hostFormed _ _ before (F .gives) (sym number-is ∙ z) in (g .0, ap (λ (x : HostForm). x .length) (g .1))
 
   -- a refusal of any kind leaves the buffer as it was
   pub host-kept : (r .number ≡ 0 → ⊥) → (after ≡ before) × (r .length ≡ 0)
-  unfolding writes
-  host-kept n =
-      let nothing = given-none said (asciiForm P (normalForm text)) (λ z. n (number-is ∙ z)) in
-      (F .buffer ∙ ap (λ (xs : List ℕ). written xs before) nothing ∙ untouched before, ap (λ (x : HostForm). x .length) (F .result) ∙ ap length nothing)
+  host-kept n = let g = gave-none hostFormed _ _ before (F .gives) (λ z. n (number-is ∙ z)) in (g .0, ap (λ (x : HostForm). x .length) (g .1))
 
   -- ---- with room
 
   module _ (room : 255 ≤ length before) where
     said-is : said ≡ hostRules P text
-    unfolding formRows hostRules
+    unfolding callRows hostRules
     said-is = passed-over 1 (ltb (length before) 255) 0 (rows P text) (le-ltb (length before) 255 room)
 
     pub host-says : (r .number ≡ hostRules P text .number) × (r .place ≡ hostRules P text .place)
-    host-says = (number-is ∙ ap (λ (a : Answer). a .number) said-is, ap (λ (x : HostForm). x .place) (F .result) ∙ ap (λ (a : Answer). a .place) said-is)
+    host-says = (number-is ∙ ap (λ (a : Answer). a .number) said-is, ap (λ (x : HostForm). x .place) (F .gives .result) ∙ ap (λ (a : Answer). a .place) said-is)
 
     pub host-granted : Laws P → (r .number ≡ 0) ↔ HostGranted P text
     host-granted L = let g = number-granted P L text in (λ z. g .0 (sym (host-says .0) ∙ z), λ G. host-says .0 ∙ g .1 G)
@@ -77,5 +70,5 @@ module _ (P : Permits) (t : List ℕ) where
   minus-host-judged = rw (minus-host-rows, minus-form t, minus-length t)
 
   pub minus-host-form : {before after : List ℕ} {r : HostForm} → HostForms P (withHyphens t) before after r → HostForms P t before after r
-  unfolding formRows writes
-  minus-host-form F = record { result = rw (minus-host-rows, minus-form t) at (F .result); buffer = rw (minus-host-rows, minus-form t) at (F .buffer) }
+  unfolding callRows
+  minus-host-form F = record { gives = rw (minus-host-rows, minus-form t) at (F .gives) }

@@ -10,13 +10,12 @@ use lib.Dec.{ltb}
 use lib.ListN.{length, take, drop, replicate}
 use borrow.Author.Tests.{lt-ltb, le-ltb, ltb-true, ltb-false}
 use Rattle.lists.specs.Tests.{allOf, anyOf, indexOf}
-use Rattle.lists.specs.Front.{written, Puts}
-use Rattle.lists.specs.Rows.{Row, row, accepted, first, given, Clear}
+use Rattle.lists.specs.Front.{Puts}
+use Rattle.lists.specs.Rows.{Row, row, accepted, first, Clear}
 use Rattle.lists.specs.declared.Answer.{Answer}
-use Rattle.lists.proofs.Fronts.{untouched}
 use Rattle.lists.proofs.Laws.{by-test}
 use Rattle.lists.proofs.Pieces.{puts-count, puts-written}
-use Rattle.lists.proofs.Tables.{clear, stands, hands-on, hit, passed-over, refusing, accepted-clear, split-clear, given-all, given-none}
+use Rattle.lists.proofs.Tables.{clear, stands, hands-on, hit, passed-over, refusing, accepted-clear, split-clear, gives-no, gives-yes}
 use Rattle.normal.specs.Normal.{normalForm}
 use Rattle.normal.proofs.Laws.{no-longer}
 use Rattle.rules.specs.Labels.{labels}
@@ -30,9 +29,9 @@ use Rattle.rules.proofs.Steps.{host-5, host-6, host-each}
 use Rattle.fronts.specs.Fronts.{shown}
 use Rattle.fronts.proofs.Shown.{padded-is, at-start, shown-full}
 use Rattle.fronts.proofs.Fronting.{Told, told-size, told-fits, told-form}
-use Rattle.ascii.specs.Ascii.{asciiForm, uncoded, writable}
+use Rattle.ascii.specs.Ascii.{asciiForm, writable}
 use Rattle.ascii.proofs.OfNames.{label-writable}
-use Rattle.hosts.specs.Hosts.{codedRows, rows, hostRules, hostJudged, formRows, hostFormed, writes, HostForms}
+use Rattle.hosts.specs.Hosts.{codedRows, rows, hostRules, hostJudged, callRows, hostFormed, HostForms}
 use Rattle.hosts.specs.Steps.{Judges, AllReady}
 use Rattle.hosts.specs.declared.HostForm.{HostForm}
 use Rattle.hosts.specs.declared.HostJudged.{HostJudged}
@@ -131,26 +130,19 @@ module _ (P : Permits) {text before after : List ℕ} {n : ℕ} where
 -- ---- the call
 
 module _ (P : Permits) (text before : List ℕ) where
-  refused-as : {a : Answer} {r : HostForm} → first (formRows P text (length before)) ≡ a → (a .number ≡ 0 → ⊥) → r ≡ hostFormed a 0
-      → HostForms P text before before r
-  unfolding writes
-  refused-as {a} e h q =
-      let none = given-none a (asciiForm P (normalForm text)) h in
-      record { result = q ∙ rw (e, none); buffer = rw (e, none) (sym (untouched before)) }
-
   pub no-room : {r : HostForm} → length before < 255 → r ≡ hostFormed (record { number = 1; place = 0 }) 0 → HostForms P text before before r
-  unfolding formRows
-  no-room h q = refused-as (hit 1 _ 0 _ (lt-ltb (length before) 255 h)) (λ z. omega arith) q
+  unfolding callRows
+  no-room h q = record { gives = gives-no hostFormed _ _ before (hit 1 _ 0 _ (lt-ltb (length before) 255 h)) (λ z. omega arith) q }
 
   module _ (h : 255 ≤ length before) {lent form : List ℕ} {j : Ruled} (J : Judges P text lent form j) where
-    ruled : first (formRows P text (length before)) ≡ record { number = j .number; place = j .place }
-    unfolding formRows hostRules
+    ruled : first (callRows P text (length before)) ≡ record { number = j .number; place = j .place }
+    unfolding callRows hostRules
     ruled =
         passed-over 1 _ 0 _ (le-ltb (length before) 255 h)
         ∙ sym (ap (λ (x : Ruled). record { number = x .number; place = x .place }) (J .result))
 
     pub ruled-out : {r : HostForm} → (j .number ≡ 0 → ⊥) → r ≡ hostFormed (record { number = j .number; place = j .place }) 0 → HostForms P text before before r
-    ruled-out n q = refused-as ruled n q
+    ruled-out n q = record { gives = gives-no hostFormed _ _ before ruled n q }
 
     module _ (z : j .number ≡ 0) where
       clears : Clear (rows P text)
@@ -187,12 +179,7 @@ module _ (P : Permits) (text before : List ℕ) where
 
       pub put-all : {after : List ℕ} {n : ℕ} → Puts (asciiForm P (take (j .length - 0) (drop 0 form))) before after 0 n
           → HostForms P text before after (record { number = 0; place = 0; length = n })
-      unfolding writes formRows
+      unfolding callRows
       put-all t =
-          let none : first (formRows P text (length before)) ≡ accepted = passed ∙ clear (rows P text) clears in
-          let all = given-all accepted (asciiForm P (normalForm text)) refl in
           let u = rw form-is at t in
-          record { result = rw (none, all, puts-count u); buffer = puts-written u ∙ rw (none, all) }
-        where
-          passed : first (formRows P text (length before)) ≡ first (rows P text)
-          passed = passed-over 1 _ 0 _ (le-ltb (length before) 255 h)
+          record { gives = gives-yes hostFormed _ _ before (passed-over 1 _ 0 _ (le-ltb (length before) 255 h) ∙ clear (rows P text) clears) (puts-count u) (puts-written u) }

@@ -4,6 +4,6 @@ mod Putting
 pub mod Coded
 pub mod Exactly
 mod Judging
-pub mod Unique
 pub mod Demands
 pub mod InForce
+pub mod Unique

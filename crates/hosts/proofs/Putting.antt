@@ -1,8 +1,8 @@
 -- A label's ASCII form goes to the lent buffer by way of a scratch of 63 octets: the call for one label, which the coder's answer lets accept,
 -- leaves it at the scratch's start, and it is copied to its place. Label by label the whole is put (ascii, proofs/Joining).
 -- Assumes nothing.
-use mathlib.Core.Path.{_≡_, refl, sym, ap, _∙_}
-use mathlib.Core.Bool.{true, false, not, _||_}
+use mathlib.Core.Path.{_≡_, sym, ap, _∙_}
+use mathlib.Core.Bool.{true, false, not}
 use mathlib.Core.List.{List, [], _∷_, _++_, append-assoc, append-nil}
 use Prim.Native.Nat.{ℕ, _+_, _-_, _≤_, _<_}
 use native.Mathlib.Omega.{arith}

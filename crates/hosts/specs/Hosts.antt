@@ -1,13 +1,11 @@
 -- A nameserver's host name: what the rules say of a text with 14 and 19, which need the coder, and what the calls answer
 -- and leave in the buffer that is lent to them: document 02, K10.
 use mathlib.Core.List.{List, [], _∷_, _++_}
-use mathlib.Core.Path.{_≡_}
 use Prim.Native.Nat.{ℕ, _≤_}
 use lib.Dec.{ltb}
 use lib.ListN.{length}
 use Rattle.lists.specs.Tests.{anyOf, indexOf}
-use Rattle.lists.specs.Front.{written}
-use Rattle.lists.specs.Rows.{Row, row, first, given}
+use Rattle.lists.specs.Rows.{Row, row, first, Gives}
 use Rattle.lists.specs.declared.Answer.{Answer}
 use Rattle.normal.specs.Normal.{normalForm}
 use Rattle.rules.specs.Labels.{labels}
@@ -59,16 +57,11 @@ hostJudged P text = record {
 
 -- ---- the ASCII form: 1 for a buffer under 255, then the rules; with 0 it writes the joined form
 
-unfoldable pub formRows : Permits → List ℕ → ℕ → List Row
-formRows P text room = row 1 (ltb room 255) 0 ∷ rows P text
+unfoldable pub callRows : Permits → List ℕ → ℕ → List Row
+callRows P text room = row 1 (ltb room 255) 0 ∷ rows P text
 
 abbrev pub hostFormed : Answer → ℕ → HostForm
 hostFormed a n = record { number = a .number; place = a .place; length = n }
 
--- what is written at the buffer's start: the joined ASCII form where accepted, nothing where refused
-unfoldable pub writes : Permits → List ℕ → ℕ → List ℕ
-writes P text room = given (first (formRows P text room)) (asciiForm P (normalForm text))
-
 pub record HostForms (P : Permits) (text before after : List ℕ) (r : HostForm) : Type 0 where
-  pub result : r ≡ hostFormed (first (formRows P text (length before))) (length (writes P text (length before)))
-  pub buffer : after ≡ written (writes P text (length before)) before
+  pub gives : Gives hostFormed (callRows P text (length before)) (asciiForm P (normalForm text)) before after r

@@ -26,7 +26,7 @@ use Rattle.rules.specs.Rules.{short, long, hyphenPair, pretends, bareDot, label
 use Rattle.rules.specs.Hosts.{eachRows, hostRows, hostTextRows}
 use Rattle.rules.specs.Editions.{todayWith}
 use Rattle.ascii.specs.Ascii.{asciiLabel, asciiForm, uncoded}
-use Rattle.hosts.specs.Hosts.{codedRows, rows, hostRules, formRows}
+use Rattle.hosts.specs.Hosts.{codedRows, rows, hostRules, callRows}
 
 -- a text that is accepted, with its ASCII form; or refused, with what is said in turn: first of the text, next of it
 -- without the rows of the first's number, and so on, since all of these rows apply to it; or the same of the call that
@@ -45,7 +45,7 @@ inTurn rs (x ∷ xs) = first rs ∷ inTurn (without (x .number) rs) xs
 abbrev pub said : Permits → Case → List Answer × List ℕ
 said P (accepts text form) = (hostRules P text ∷ [], asciiForm P (normalForm text))
 said P (refuses text turn) = (inTurn (rows P text) turn, [])
-said P (call-refuses room text turn) = (inTurn (formRows P text room) turn, [])
+said P (call-refuses room text turn) = (inTurn (callRows P text room) turn, [])
 
 abbrev pub meant : Case → List Answer × List ℕ
 meant (accepts text form) = (accepted ∷ [], form)
@@ -171,5 +171,5 @@ unfolding within allOf anyOf indexOf elem first without alnum hyphen asciiSet hi
     point points nearer least passes below delimiter initial extended encode ace Puny.alnum ldh wide allowed encodable
     coderNumber period intoFirst labels join jaChar labelChar isEmpty unfit middleDot ordinary isJapanese
     beginsWithHyphen endsWithHyphen hyphenEdge short long hyphenPair pretends bareDot labelRows frontRows eachRows
-    hostRows hostTextRows todayWith asciiLabel asciiForm uncoded codedRows rows hostRules formRows inTurn halfGa
+    hostRows hostTextRows todayWith asciiLabel asciiForm uncoded codedRows rows hostRules callRows inTurn halfGa
 tried = refl

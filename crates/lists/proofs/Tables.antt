@@ -6,10 +6,13 @@ use mathlib.Core.List.{List, [], _∷_, _++_}
 use Prim.Native.Nat.{ℕ}
 use native.Mathlib.Omega.{arith}
 use lib.Dec.{eqb, ltb}
+use lib.ListN.{length}
 use borrow.Author.Tests.{eqb-true, eqb-false, eq-eqb, ne-eqb, ltb-true, not-true}
 use Rattle.lists.specs.Tests.{pick, allOf}
-use Rattle.lists.specs.Rows.{Row, row, accepted, says, first, without, Clear, given}
+use Rattle.lists.specs.Front.{written}
+use Rattle.lists.specs.Rows.{Row, row, accepted, says, first, without, Clear, given, Gives}
 use Rattle.lists.specs.declared.Answer.{Answer}
+use Rattle.lists.proofs.Fronts.{untouched}
 use Rattle.lists.proofs.Laws.{both, clash}
 
 -- a row that does not apply is passed over; the first that applies is the answer
@@ -199,3 +202,21 @@ given-all a xs e = rw (eq-eqb (a .number) 0 e)
 pub given-none : (a : Answer) (xs : List ℕ) → (a .number ≡ 0 → ⊥) → given a xs ≡ []
 unfolding given
 given-none a xs e = rw (ne-eqb (a .number) 0 e)
+
+-- ---- a call that writes
+
+module _ {R : Type 0} (make : Answer → ℕ → R) (rows : List Row) (xs before : List ℕ) where
+  -- a refusal leaves the buffer
+  pub gives-no : {a : Answer} {r : R} → first rows ≡ a → (a .number ≡ 0 → ⊥) → r ≡ make a 0 → Gives make rows xs before before r
+  gives-no {a} e h q = let none = given-none a xs h in record { result = q ∙ rw (e, none); buffer = rw (e, none) (sym (untouched before)) }
+
+  pub gives-yes : {n : ℕ} {after : List ℕ} → first rows ≡ accepted → n ≡ length xs → after ≡ written xs before
+      → Gives make rows xs before after (make accepted n)
+  gives-yes e n w = let all = given-all accepted xs refl in record { result = rw (e, all, n); buffer = w ∙ rw (e, all) }
+
+  module _ {after : List ℕ} {r : R} (G : Gives make rows xs before after r) where
+    pub gave-all : first rows .number ≡ 0 → (after ≡ written xs before) × (r ≡ make (first rows) (length xs))
+    gave-all z = let all = given-all (first rows) xs z in (G .buffer ∙ rw all, G .result ∙ rw all)
+
+    pub gave-none : (first rows .number ≡ 0 → ⊥) → (after ≡ before) × (r ≡ make (first rows) 0)
+    gave-none h = let none = given-none (first rows) xs h in (G .buffer ∙ rw none (untouched before), G .result ∙ rw none)

@@ -5,7 +5,9 @@ use mathlib.Core.List.{List, [], _∷_}
 use mathlib.Core.Path.{_≡_}
 use Prim.Native.Nat.{ℕ}
 use lib.Dec.{eqb}
+use lib.ListN.{length}
 use Rattle.lists.specs.Tests.{pick}
+use Rattle.lists.specs.Front.{written}
 use Rattle.lists.specs.declared.Answer.{Answer}
 
 -- a refusal: its number, when it applies, and its place
@@ -43,3 +45,9 @@ Clear (r ∷ rs) = (r .applies ≡ false) × Clear rs
 -- what stands at the buffer's start then: xs where accepted, nothing where refused
 unfoldable pub given : Answer → List ℕ → List ℕ
 given a xs = pick (eqb (a .number) 0) xs []
+
+-- what a call that writes answers, from its rows and what it would write; `make` makes the call's struct of the answer
+-- and of the length of what is written
+pub record Gives {R : Type 0} (make : Answer → ℕ → R) (rows : List Row) (xs before after : List ℕ) (r : R) : Type 0 where
+  pub result : r ≡ make (first rows) (length (given (first rows) xs))
+  pub buffer : after ≡ written (given (first rows) xs) before

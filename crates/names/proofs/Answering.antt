@@ -12,10 +12,9 @@ use lib.Seq.{take-all}
 use borrow.Author.Tests.{ne-eqb, lt-ltb, le-ltb}
 use Rattle.lists.specs.Tests.{allOf, anyOf}
 use Rattle.lists.specs.Front.{written}
-use Rattle.lists.specs.Rows.{Row, row, first, given, Clear}
+use Rattle.lists.specs.Rows.{Row, row, first, Clear}
 use Rattle.lists.specs.declared.Answer.{Answer}
-use Rattle.lists.proofs.Fronts.{untouched}
-use Rattle.lists.proofs.Tables.{clear, clear-before, split-clear, refused-before, hit, passed-over, refusing, accepted-clear, given-none}
+use Rattle.lists.proofs.Tables.{clear, clear-before, split-clear, refused-before, hit, passed-over, refusing, accepted-clear, gives-no, gives-yes}
 use Rattle.normal.specs.Normal.{normalForm}
 use Rattle.normal.proofs.Laws.{no-longer}
 use Rattle.rules.specs.Labels.{labels}
@@ -38,14 +37,12 @@ module _ {R : Type 0} (make : Verdict → ℕ → R) (rows : List Row) (text xs 
   answers-no : {n p : ℕ} {r : R} → r ≡ make (refused n p) 0 → first rows ≡ record { number = n; place = p } → (n ≡ 0 → ⊥)
       → Answers make rows text xs before before r
   unfolding verdict
-  answers-no {n} {p} q e h =
-      let none = given-none (record { number = n; place = p }) xs h in
-      record { result = q ∙ rw (e, none, ne-eqb n 0 h); buffer = rw (e, none) (sym (untouched before)) }
+  answers-no {n} {p} q e h = record { gives = gives-no _ rows xs before e h (q ∙ rw (ne-eqb n 0 h)) }
 
   answers-yes : {k : Class} {n : ℕ} {after : List ℕ} → first rows ≡ record { number = 0; place = 0 } → k ≡ classOf (labels (normalForm text))
       → n ≡ length xs → after ≡ written xs before → Answers make rows text xs before after (make (accepted k) n)
-  unfolding verdict given
-  answers-yes e p q w = record { result = rw (e, p, q); buffer = rw e w }
+  unfolding verdict
+  answers-yes e p q w = record { gives = rw p (gives-yes _ rows xs before e q w) }
 
 -- ---- an accepted name
 

@@ -2,7 +2,7 @@
 -- neither 13 nor 14 comes of an accepted name: row 14 never applies, and with room its ASCII form is given.
 -- Assumes nothing.
 use mathlib.Core.Path.{_≡_, refl, sym, ap, _∙_}
-use mathlib.Core.Bool.{Bool, true, false, not, _||_, or-true}
+use mathlib.Core.Bool.{Bool, true, false, not, or-true}
 use mathlib.Core.List.{List, [], _∷_, _++_}
 use Prim.Native.Nat.{ℕ, _≤_}
 use native.Mathlib.Omega.{arith}
@@ -64,7 +64,7 @@ module _ (P : Permits) (stretch : InStretch P) where
     unfolding rules verdict given
     ascii-given e before after r a h =
         let p = ascii-first (length before) h ∙ clear (textRows P text) (text-cleared P text e) in
-        (ap (λ (x : AsciiForm). x .number) (a .result) ∙ rw p, a .buffer ∙ rw p)
+        (ap (λ (x : AsciiForm). x .number) (a .gives .result) ∙ rw p, a .gives .buffer ∙ rw p)
 
     -- none of 2 to 12 and 17 is 14
     text-not-14 : eqb (first (textRows P text) .number) 14 ≡ false
@@ -82,7 +82,7 @@ module _ (P : Permits) (stretch : InStretch P) where
     -- and of no text does it answer 14
     pub never-14 : (before after : List ℕ) (r : AsciiForm) → AsciiForms P text before after r → r .number ≡ 14 → ⊥
     unfolding verdict
-    never-14 before after r a e = row-never (length before) (sym (ap (λ (x : AsciiForm). x .number) (a .result)) ∙ e)
+    never-14 before after r a e = row-never (length before) (sym (ap (λ (x : AsciiForm). x .number) (a .gives .result)) ∙ e)
 
 -- at the edition in force
 pub given-today : (text before after : List ℕ) (r : AsciiForm) → rules today text .number ≡ 0 → AsciiForms today text before after r → 192 ≤ length before

@@ -30,7 +30,7 @@ use Rattle.names.proofs.Coded.{ascii-first}
 answers-say : {R : Type 0} {make : Verdict → ℕ → R} (said : R → Verdict) → ((v : Verdict) (n : ℕ) → said (make v n) ≡ v) → (P : Permits) {rows : List Row}
     {text xs before after : List ℕ} {r : R} → Answers make rows text xs before after r → first rows ≡ first (textRows P text) → said r ≡ rules P text
 unfolding rules
-answers-say said back P {text = text} a e = ap said (a .result) ∙ back _ _ ∙ ap (λ (x : Answer). verdict x (labels (normalForm text))) e
+answers-say said back P {text = text} a e = ap said (a .gives .result) ∙ back _ _ ∙ ap (λ (x : Answer). verdict x (labels (normalForm text))) e
 
 -- what says what the rules say of a text is 0 with a class exactly where its normal form is admitted as a name of that class
 said-derives : (P : Permits) → Laws P → (text : List ℕ) (v : Verdict) → v ≡ rules P text → (k : Class)

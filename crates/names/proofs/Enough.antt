@@ -2,15 +2,14 @@
 -- leftmost by rule 9, a prefecture label by the table, the last since it is "jp".
 -- Assumes nothing.
 use mathlib.Core.Path.{_≡_, refl, sym, ap, _∙_}
-use mathlib.Core.Bool.{Bool, true, false, not, _&&_, _||_}
+use mathlib.Core.Bool.{Bool, true, false, not}
 use mathlib.Core.List.{List, [], _∷_, _++_}
 use mathlib.Core.Logic.{⊎-elim}
 use Prim.Native.Nat.{ℕ, _-_, _≤_}
 use native.Mathlib.Omega.{arith}
-use lib.Dec.{leb}
 use lib.ListN.{length, take, drop, length-append}
 use lib.Seq.{take-at, take-all}
-use borrow.Author.Tests.{le-leb, not-true, not-false}
+use borrow.Author.Tests.{not-true, not-false}
 use Rattle.lists.specs.Tests.{allOf, anyOf, same}
 use Rattle.lists.specs.Front.{written}
 use Rattle.lists.specs.Rows.{Clear}

@@ -18,7 +18,7 @@ use Rattle.names.specs.declared.Checked.{Checked}
 -- a call that writes, with the same rows and the same to write
 answers-alike : {R : Type 0} {make : Verdict → ℕ → R} {rows rows′ : List Row} {xs xs′ before after : List ℕ} {r : R} (t : List ℕ)
     → rows ≡ rows′ → xs ≡ xs′ → Answers make rows (withHyphens t) xs before after r → Answers make rows′ t xs′ before after r
-answers-alike t e f a = record { result = rw (e, f, minus-form t) at (a .result); buffer = rw (e, f) at (a .buffer) }
+answers-alike t e f a = record { gives = rw (e, f, minus-form t) at (a .gives) }
 
 module _ (P : Permits) (t : List ℕ) where
   pub minus-judged : judged P (withHyphens t) ≡ judged P t

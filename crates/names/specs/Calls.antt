@@ -1,13 +1,12 @@
 -- What the calls on a name answer, and what they leave in the buffer that is lent to them: document 01, 'Numbers a
 -- call may answer'.
 use mathlib.Core.List.{List, [], _∷_, _++_}
-use mathlib.Core.Path.{_≡_}
 use Prim.Native.Nat.{ℕ}
 use lib.Dec.{ltb}
 use lib.ListN.{length}
 use Rattle.lists.specs.Tests.{anyOf}
-use Rattle.lists.specs.Front.{written}
-use Rattle.lists.specs.Rows.{Row, row, first, given}
+use Rattle.lists.specs.Rows.{Row, row, Gives}
+use Rattle.lists.specs.declared.Answer.{Answer}
 use Rattle.normal.specs.Normal.{normalForm}
 use Rattle.rules.specs.Labels.{labels}
 use Rattle.rules.specs.Permits.{Permits}
@@ -37,8 +36,7 @@ judged P text =
 -- `make` makes the call's struct of what is said and of the length of what is written
 pub record Answers {R : Type 0} (make : Verdict → ℕ → R) (rows : List Row) (text xs before after : List ℕ) (r : R)
     : Type 0 where
-  pub result : r ≡ make (verdict (first rows) (labels (normalForm text))) (length (given (first rows) xs))
-  pub buffer : after ≡ written (given (first rows) xs) before
+  pub gives : Gives (λ (a : Answer) (n : ℕ). make (verdict a (labels (normalForm text))) n) rows xs before after r
 
 -- ---- the check: 1 for a buffer under 256, then the rules; with 0 it writes the normal form
 

@@ -1,7 +1,7 @@
 -- `judge_into` meets its contract: 2 to 4 come first, and the labels of the form have the rest.
 -- Assumes nothing.
 use native.Mathlib.Omega.{arith}
-use Rattle.fronts.proofs.Fronting.{told-refused, told-unfit, told-fit, told-size, told-fits, told-form}
+use Rattle.fronts.proofs.Fronting.{told-refused, told-unfit, told-fit, told-fits}
 use Rattle.hosts.proofs.Judging.{judges-front, form-fit, form-few, judges-on}
 use borrow.Author.Needs.{needs}
 use Rattle.hosts.proofs.judges.judge_into.Statement.{statement}

@@ -1,6 +1,5 @@
 -- `empty_rule` meets its contract: at each turn no label before the i-th is empty.
 -- Assumes nothing.
-use mathlib.Core.Path.{_≡_}
 use Prim.Native.Nat.{_-_}
 use native.Mathlib.Omega.{arith}
 use lib.ListN.{length}
