@@ -25,10 +25,9 @@ use Rattle.rules.specs.Rules.{unfit, middleDot, isJapanese, beginsWithHyphen, e
 use Rattle.rules.specs.Editions.{todayWith}
 use Rattle.rules.specs.Hopeful.{begins, leftmost, tries, grows, hopeful}
 use Rattle.rules.proofs.ByName.{clear-front, front-clear, front-cleared}
-use Rattle.rules.proofs.Cuts.{labelled}
+use Rattle.rules.proofs.Cuts.{some-label}
 use Rattle.rules.proofs.Hopeless.{leftmost-length, past-hope}
 use Rattle.fronts.proofs.Fronting.{Told, told-form}
-use Rattle.names.proofs.OfName.{some-label}
 
 -- ---- one character more, in an array of 64
 
@@ -102,7 +101,7 @@ module _ (P : Permits) where
 
 -- a fourth label
 pub four-found : (P : Permits) (t r : List ℕ) {l m z : List ℕ} → labels t ≡ l ∷ m ∷ z ∷ labels r → false ≡ grows P (labels t)
-four-found P t r {l} {m} {z} e = rw e (four-not P l m z (labels r) (some-label (labelled r)))
+four-found P t r {l} {m} {z} e = rw e (four-not P l m z (labels r) (some-label r))
 
 -- a beginning of one of the edition's prefecture labels
 pub begins-middle : (table m : List ℕ) {p : Bool} → p ≡ anyOf (begins m) prefectures → p ≡ anyOf (begins m) (todayWith table .middles)

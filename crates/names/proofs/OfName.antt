@@ -16,7 +16,7 @@ use Rattle.rules.specs.Prefectures.{prefectures}
 use Rattle.rules.specs.Rules.{byLabels, refused}
 use Rattle.rules.specs.Editions.{todayWith}
 use Rattle.rules.specs.declared.Verdict.{Verdict}
-use Rattle.rules.proofs.Cuts.{Labelled, none, cut, held, labelled, last-from, first-from}
+use Rattle.rules.proofs.Cuts.{some-label, last-from, first-from}
 use Rattle.rules.proofs.Steps.{empty-is, name-5, name-6}
 
 -- ---- empty labels
@@ -79,11 +79,6 @@ middle-is table m e = e
 
 -- ---- where the labels end
 
-pub some-label : {t : List ℕ} {ls : List (List ℕ)} → Labelled t ls → 1 ≤ length ls
-some-label none = omega arith
-some-label (cut d) = omega arith
-some-label (held p d) = omega arith
-
 too-many : (P : Permits) (ls : List (List ℕ)) → (length ls ≡ 2 → ⊥) → (length ls ≡ 3 → ⊥) → refused 5 0 ≡ byLabels P ls
 too-many P ls f g = sym (name-5 P ls (rw (ne-eqb (length ls) 2 f, ne-eqb (length ls) 3 g) (and-false (P .three))))
 
@@ -137,6 +132,6 @@ module _ (P : Permits) (t : List ℕ) (a : ℕ) (sa : a ≡ 0 + indexOf period (
 
       pub more-labels : d < length t → refused 5 0 ≡ byLabels P (labels t)
       more-labels k =
-          let n = some-label (labelled (drop (d + 1) t)) in
+          let n = some-label (drop (d + 1) t) in
           let e = more-is t a sa ka b sb kb d sd k in
           too-many P (labels t) (λ x. omega (arith, ap length e)) (λ x. omega (arith, ap length e))
