@@ -1,7 +1,7 @@
 -- `label_form` meets its contract: the coder answers for a label to be encoded, and of any other its length decides.
 -- Assumes nothing.
-use native.Mathlib.Omega.{arith}
 use mathlib.Core.Path.{sym, _∙_}
+use native.Mathlib.Omega.{arith}
 use Rattle.ascii.proofs.Forming.{by-coder, no-room, too-long, as-it-is}
 use borrow.Author.Needs.{needs}
 use Rattle.ascii.proofs.label_form.Statement.{statement}

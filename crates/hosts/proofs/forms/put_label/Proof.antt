@@ -1,7 +1,7 @@
 -- `put_label` meets its contract: the scratch holds the label's ASCII form, which is copied to its place.
 -- Assumes nothing.
-use native.Mathlib.Omega.{arith}
 use mathlib.Core.Path.{refl}
+use native.Mathlib.Omega.{arith}
 use Rattle.rules.specs.Editions.{todayWith}
 use Rattle.rules.proofs.Today.{lent-stretch}
 use Rattle.hosts.proofs.Putting.{scratch-fits, piece-length, place-fits, label-put}
@@ -25,7 +25,9 @@ part-copy-start : tie.Need-part-copy-start
 part-copy-start c = search needs
 
 part-copy-end : tie.Need-part-copy-end
-part-copy-end c = omega (arith, scratch-fits (todayWith (c .before .before .before .before .before .before .before .args .kanji .now)) (lent-stretch _) (c .before .before .before .before .before .before .before .args .label .now) (c .before .before .before .before .before .before .before .args .at) (c .before .before .before .before .before .before .before .args .out .now) ((c .before .before .before .before .before .before .before .pre)) (c .before .before .label-form .ensures) (omega arith))
+part-copy-end c =
+    let s = c .before .before .before .before .before .before .before in
+    omega (arith, scratch-fits (todayWith (s .args .kanji .now)) (lent-stretch _) (s .args .label .now) (s .args .at) (s .args .out .now) (s .pre) (c .before .before .label-form .ensures) (omega arith))
 
 sub-copy-2 : tie.Need-sub-copy-2
 sub-copy-2 c = omega (arith, c .before .before .before .before .before .before .before .before .pre .fits)
@@ -37,16 +39,22 @@ part-copy-end-2 : tie.Need-part-copy-end-2
 part-copy-end-2 c = search needs
 
 copy-requires : tie.Need-copy-requires
-copy-requires c κs = omega (arith, place-fits (todayWith (c .before .before .before .before .before .before .before .before .before .args .kanji .now)) (lent-stretch _) (c .before .before .before .before .before .before .before .before .before .args .label .now) (c .before .before .before .before .before .before .before .before .before .args .at) (c .before .before .before .before .before .before .before .before .before .args .out .now) ((c .before .before .before .before .before .before .before .before .before .pre)) (c .before .before .before .before .label-form .ensures) (omega arith), piece-length (todayWith (c .before .before .before .before .before .before .before .before .before .args .kanji .now)) (lent-stretch _) (c .before .before .before .before .before .before .before .before .before .args .label .now) (c .before .before .before .before .before .before .before .before .before .args .at) (c .before .before .before .before .before .before .before .before .before .args .out .now) ((c .before .before .before .before .before .before .before .before .before .pre)) (c .before .before .before .before .label-form .ensures) (omega arith))
+copy-requires c κs =
+    let s = c .before .before .before .before .before .before .before .before .before in
+    omega (arith, place-fits (todayWith (s .args .kanji .now)) (lent-stretch _) (s .args .label .now) (s .args .at) (s .args .out .now) (s .pre) (c .before .before .before .before .label-form .ensures) (omega arith), piece-length (todayWith (s .args .kanji .now)) (lent-stretch _) (s .args .label .now) (s .args .at) (s .args .out .now) (s .pre) (c .before .before .before .before .label-form .ensures) (omega arith))
 
 add-result : tie.Need-add-result
-add-result c = omega (arith, place-fits (todayWith (c .before .before .before .before .before .before .before .before .before .before .before .before .args .kanji .now)) (lent-stretch _) (c .before .before .before .before .before .before .before .before .before .before .before .before .args .label .now) (c .before .before .before .before .before .before .before .before .before .before .before .before .args .at) (c .before .before .before .before .before .before .before .before .before .before .before .before .args .out .now) ((c .before .before .before .before .before .before .before .before .before .before .before .before .pre)) (c .before .before .before .before .before .before .before .label-form .ensures) (omega arith))
+add-result c =
+    let s = c .before .before .before .before .before .before .before .before .before .before .before .before in
+    omega (arith, place-fits (todayWith (s .args .kanji .now)) (lent-stretch _) (s .args .label .now) (s .args .at) (s .args .out .now) (s .pre) (c .before .before .before .before .before .before .before .label-form .ensures) (omega arith))
 
 same-length : tie.Need-same-length
 same-length c = search needs
 
 returns : tie.Need-returns
-returns c = label-put (todayWith (c .before .before .before .before .before .before .before .before .before .before .before .before .args .kanji .now)) (lent-stretch _) (c .before .before .before .before .before .before .before .before .before .before .before .before .args .label .now) (c .before .before .before .before .before .before .before .before .before .before .before .before .args .at) (c .before .before .before .before .before .before .before .before .before .before .before .before .args .out .now) ((c .before .before .before .before .before .before .before .before .before .before .before .before .pre)) (c .before .before .before .before .before .before .before .label-form .ensures) (omega arith) refl (c .before .before .copy .ensures .1)
+returns c =
+    let s = c .before .before .before .before .before .before .before .before .before .before .before .before in
+    label-put (todayWith (s .args .kanji .now)) (lent-stretch _) (s .args .label .now) (s .args .at) (s .args .out .now) (s .pre) (c .before .before .before .before .before .before .before .label-form .ensures) (omega arith) refl (c .before .before .copy .ensures .1)
 
 pub put-label-spec : {M : Type 1} → statement M
 put-label-spec =

@@ -17,7 +17,7 @@ abbrev μ-loop : tie.MeasureT-loop
 μ-loop kanji form out₀ from₀ at₀ out from at = length form - from
 
 loop-holds : tie.Need-loop-holds Inv-loop μ-loop
-loop-holds c = hosts-all _ _ _ ((c .before .before .before .pre))
+loop-holds c = hosts-all _ _ _ (c .before .before .before .pre)
 
 label-end-requires : tie.Need-label-end-requires Inv-loop μ-loop
 label-end-requires c κs = search needs

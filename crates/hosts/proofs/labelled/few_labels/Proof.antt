@@ -1,9 +1,9 @@
 -- `few_labels` meets its contract: with no first or no second period there are fewer than three labels, and with both there are three.
 -- Assumes nothing.
-use Rattle.hosts.proofs.Walking.{one-label, two-labels, three-labels}
-use borrow.Author.Tests.{le-leb, lt-leb}
 use mathlib.Core.Path.{_∙_}
 use mathlib.Core.Logic.{⊎-elim}
+use borrow.Author.Tests.{le-leb, lt-leb}
+use Rattle.hosts.proofs.Walking.{one-label, two-labels, three-labels}
 use Rattle.lists.proofs.Laws.{lt-or-le}
 use borrow.Author.Needs.{needs}
 use Rattle.hosts.proofs.labelled.few_labels.Statement.{statement}

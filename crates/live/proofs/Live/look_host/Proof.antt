@@ -1,10 +1,10 @@
 -- `look_host` meets its contract: the table of kanji is lent, and lent the bits of its own kanji the edition is itself.
 -- Assumes nothing.
 use mathlib.Core.Path.{_≡_}
-use borrow.Author.Needs.{needs}
 use Rattle.rules.specs.Permits.{Permits}
 use Rattle.rules.proofs.Today.{lending}
 use Rattle.live.specs.HostLooks.{hostLooked}
+use borrow.Author.Needs.{needs}
 use Rattle.live.proofs.Live.look_host.Statement.{statement}
 use Rattle.live.proofs.Live.look_host.Tie as tie
 
