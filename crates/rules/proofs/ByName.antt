@@ -233,9 +233,6 @@ module _ (P : Permits) (text : List ℕ) where
   unfolding hostTextRows frontRows hostRows refusing allOf
   host-refuses = each-refuses P ls
 
-  pub host-cleared : first (hostTextRows P text) .number ≡ 0 → Clear (hostTextRows P text)
-  host-cleared e = accepted-clear (hostTextRows P text) host-refuses e
-
   -- where 8 is given a label gives it, and none is empty
   pub past-6 : first (hostTextRows P text) .number ≡ 8 → (anyOf isEmpty ls ≡ false) × (first (eachRows P 0 ls) .number ≡ 8)
   unfolding hostTextRows frontRows hostRows allOf

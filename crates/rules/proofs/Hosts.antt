@@ -130,10 +130,6 @@ module _ (P : Permits) (L : Laws P) where
   cut-three : {t : List ℕ} → host P t → Cut 3 t
   cut-three (three d e h) = cut-more d (cut-more e (cut-some h))
 
-  -- the labels of a host derive, each of them
-  pub each-derives : {t : List ℕ} → host P t → Every (host-label P) (labels t)
-  each-derives h = cut-three h .each
-
   -- ---- a text
 
   pub clear-exactly : (text : List ℕ) → Clear (hostTextRows P text) ↔ ((length text ≤ 256) × host P (normalForm text))

@@ -118,14 +118,10 @@ module _ (P : Permits) (text : List ℕ) where
     unfolding rules textRows
     text-on z = ap (λ (x : Answer). verdict x (labels (normalForm text))) (hands-on (frontRows P text) _ e (front-cleared P text) z)
 
-    -- and of a host likewise
+    -- and what they refuse is refused of a host
     pub host-front : (a .number ≡ 0 → ⊥) → first (hostTextRows P text) ≡ a
     unfolding hostTextRows
     host-front h = stands (frontRows P text) _ e h
-
-    pub host-on : a .number ≡ 0 → first (hostTextRows P text) ≡ first (hostRows P (labels (normalForm text)))
-    unfolding hostTextRows
-    host-on z = hands-on (frontRows P text) _ e (front-cleared P text) z
 
 -- ---- the labels of a host: 5, 6, and label by label 7 to 10 and 17
 
