@@ -7,4 +7,5 @@ mod Reading
 mod UsualLine
 mod First
 pub mod Longest
+pub mod OneForm
 pub mod Unique

@@ -42,7 +42,7 @@ unfolding badAnswer
 bad-length = omega (arith, line-length (0x2D ∷ []) 16 0 None (0x2D ∷ []))
 
 -- of a line that is not bad, the id is good
-good-id : (line : List ℕ) → badLine line ≡ false → goodId (idOf line) ≡ true
+pub good-id : (line : List ℕ) → badLine line ≡ false → goodId (idOf line) ≡ true
 unfolding badLine
 good-id line e =
     let c = neither (not (goodId (idOf line))) _ (neither (not (oneTab line)) _ (neither (ltb 1024 (length line)) _ e .1) .1) in

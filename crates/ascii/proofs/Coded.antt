@@ -2,8 +2,8 @@
 -- where there are only scalar values, and the encoding of such a label has at most 63 octets (punycode, proofs/Bound). So neither 13 nor 14
 -- comes of a label to which 9 does not apply.
 -- Assumes nothing.
-use mathlib.Core.Path.{_≡_, refl}
-use mathlib.Core.Bool.{Bool, true, false, not, _&&_, _||_}
+use mathlib.Core.Path.{_≡_, refl, ap, _∙_}
+use mathlib.Core.Bool.{Bool, true, false, not, _&&_, _||_, or-comm}
 use mathlib.Core.List.{List}
 use Prim.Native.Nat.{ℕ, _≤_}
 use native.Mathlib.Omega.{arith}
@@ -22,12 +22,10 @@ use Rattle.rules.specs.Rules.{isJapanese}
 use Rattle.rules.proofs.Sound.{ascii-range}
 use Rattle.ascii.specs.Ascii.{uncoded}
 
-ascii-allowed : (c : ℕ) → asciiSet c ≡ true → ldh c ≡ true
+-- the coder's letters, digits and hyphen are the ASCII set
+pub set-is : (c : ℕ) → ldh c ≡ asciiSet c
 unfolding asciiSet alnum hyphen ldh Puny.alnum
-ascii-allowed c e =
-    either (within 0x30 0x39 c || within 0x61 0x7A c) _ e
-    (λ p. or-left _ _ (either (within 0x30 0x39 c) _ p (λ q. or-right (within 0x61 0x7A c) _ q) (λ q. or-left (within 0x61 0x7A c) _ q)))
-    (λ p. or-right (within 0x61 0x7A c || within 0x30 0x39 c) _ p)
+set-is c = ap (λ (b : Bool). b || eqb c 0x2D) (or-comm (within 0x61 0x7A c) (within 0x30 0x39 c))
 
 module _ (P : Permits) (stretch : InStretch P) where
   -- ---- a character
@@ -45,7 +43,7 @@ module _ (P : Permits) (stretch : InStretch P) where
         (λ p.
         let h = in-range 0x3003 0x9FA0 c (stretch c p) in
         or-right (ldh c) _ (rw (inside 0x80 0x10FFFF c (omega arith) (omega arith), outside 0xD800 0xDFFF c (λ x y. omega arith))))
-        (λ p. or-left (ldh c) _ (ascii-allowed c p))
+        (λ p. or-left (ldh c) _ (set-is c ∙ p))
 
   japanese-high : (c : ℕ) → jaChar P c ≡ true → leb 0x80 c ≡ true
   japanese-high c p = let h = in-range 0x3003 0x9FA0 c (stretch c p) in le-leb 0x80 c (omega arith)

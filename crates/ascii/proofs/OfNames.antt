@@ -13,10 +13,11 @@ use Rattle.lists.specs.Tests.{pick, allOf, anyOf}
 use Rattle.lists.specs.Front.{written}
 use Rattle.lists.specs.Rows.{first}
 use Rattle.lists.specs.declared.Answer.{Answer}
-use Rattle.lists.proofs.Laws.{both, in-range, all-none, all-but, any-weaker}
+use Rattle.lists.proofs.Laws.{both, in-range, all-not, all-but, any-weaker}
 use Rattle.lists.proofs.Tables.{clear, gave-all, gave-none}
-use Rattle.punycode.specs.Punycode.{ace, encodable}
+use Rattle.punycode.specs.Punycode.{ace}
 use Rattle.punycode.specs.Calls.{coderNumber}
+use Rattle.punycode.proofs.Unique.{number-zero}
 use Rattle.rules.specs.Permits.{Permits, InStretch, jaChar, labelChar}
 use Rattle.rules.specs.Rules.{isJapanese}
 use Rattle.rules.proofs.Sound.{ascii-range}
@@ -30,7 +31,7 @@ use Rattle.ascii.proofs.Forming.{rows-say, low-form}
 -- a character of the ASCII set is not
 ascii-low : (P : Permits) (l : List ℕ) → allOf (labelChar P) l ≡ true → isJapanese P l ≡ false → anyOf high l ≡ false
 unfolding isJapanese labelChar high
-ascii-low P l a p = all-none (λ (c : ℕ). not (high c)) high (λ c. not-true (high c)) l (all-but (labelChar P) (jaChar P) (λ (c : ℕ). not (high c)) low l a p)
+ascii-low P l a p = all-not high l (all-but (labelChar P) (jaChar P) (λ (c : ℕ). not (high c)) low l a p)
   where
     low : (c : ℕ) → labelChar P c ≡ true → jaChar P c ≡ false → not (high c) ≡ true
     low c e p = let h = ascii-range c (rw p at e) in ap not (lt-leb 0x80 c (omega arith))
@@ -66,22 +67,13 @@ ascii-fits : (P : Permits) (l : List ℕ) → isJapanese P l ≡ false → writa
 unfolding writable
 ascii-fits P l p w = let b = both (leb (length l) 63) (not (anyOf high l)) (rw p at w) in (not-true (anyOf high l) (b .1), leb-true (length l) 63 (b .0))
 
-coder-short : (l : List ℕ) → coderNumber l 63 ≡ 0 → length (ace l) ≤ 63
-unfolding coderNumber
-coder-short l e = go (encodable l) (leb (length (ace l)) 63) refl e
-  where
-    go : (b t : Bool) → leb (length (ace l)) 63 ≡ t → _≡_ {A = ℕ} (pick b (pick t 0 14) 13) 0 → length (ace l) ≤ 63
-    go true true p e = leb-true (length (ace l)) 63 p
-    go true false p e = absurd (omega arith)
-    go false t p e = absurd (omega arith)
-
 -- at most 63 octets
 pub label-size : (P : Permits) (l : List ℕ) → writable P l ≡ true → uncoded P l ≡ false → length (asciiLabel P l) ≤ 63
 unfolding uncoded asciiLabel
 label-size P l w u = go (isJapanese P l) refl u
   where
     go : (j : Bool) → isJapanese P l ≡ j → j && not (eqb (coderNumber l 63) 0) ≡ false → length (pick j (ace l) l) ≤ 63
-    go true p u = coder-short l (eqb-true (coderNumber l 63) 0 (not-false (eqb (coderNumber l 63) 0) u))
+    go true p u = number-zero l 63 (eqb-true (coderNumber l 63) 0 (not-false (eqb (coderNumber l 63) 0) u)) .1
     go false p u = ascii-fits P l p w .1
 
 -- ---- what the call answers of such a label

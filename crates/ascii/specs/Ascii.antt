@@ -2,6 +2,8 @@
 -- ASCII form.
 use mathlib.Core.Bool.{Bool, not, _&&_, _||_}
 use mathlib.Core.List.{List, map}
+use mathlib.Core.Logic.{_↔_}
+use mathlib.Core.Path.{_≡_}
 use Prim.Native.Nat.{ℕ}
 use lib.Dec.{eqb, leb}
 use lib.ListN.{length}
@@ -19,6 +21,10 @@ asciiLabel P l = pick (isJapanese P l) (ace l) l
 
 unfoldable pub asciiForm : Permits → List ℕ → List ℕ
 asciiForm P form = join (map (asciiLabel P) (labels form))
+
+-- the ASCII forms of two normal forms are equal exactly where these are: document 02, K4
+abbrev pub OneForm : Permits → List ℕ → List ℕ → Type 0
+OneForm P s t = (asciiForm P s ≡ asciiForm P t) ↔ (s ≡ t)
 
 -- the coder refuses a Japanese label; of one with at most 15 characters it never does, neither with 13 nor with 14
 -- (proofs/Coded)

@@ -8,17 +8,16 @@ use Prim.Native.Nat.{ℕ}
 use native.Mathlib.Omega.{arith}
 use lib.Dec.{eqb, ltb}
 use lib.ListN.{length}
-use borrow.Author.Tests.{not-true}
 use Rattle.lists.specs.Tests.{allOf, anyOf}
 use Rattle.lists.specs.Rows.{Row, row, Clear}
 use Rattle.lists.specs.declared.Answer.{Answer}
-use Rattle.lists.proofs.Laws.{both, all-none}
+use Rattle.lists.proofs.Laws.{both, all-not}
 use Rattle.lists.proofs.Tables.{clear-before, past-table, of-two, only, never-given}
 use Rattle.normal.specs.Normal.{normalForm}
 use Rattle.rules.specs.Labels.{labels}
 use Rattle.rules.specs.Permits.{Permits, InStretch, labelChar}
-use Rattle.rules.specs.Rules.{long, frontRows}
-use Rattle.rules.specs.Hosts.{hostRows, hostTextRows}
+use Rattle.rules.specs.Rules.{long, pretends, frontRows}
+use Rattle.rules.specs.Hosts.{ofHost, hostRows, hostTextRows}
 use Rattle.rules.specs.Editions.{today}
 use Rattle.rules.proofs.Views.{Every, none, also}
 use Rattle.rules.proofs.Cuts.{labels-fit}
@@ -33,11 +32,11 @@ use Rattle.hosts.specs.declared.HostForm.{HostForm}
 
 -- ---- a law of each label
 
-module _ (P : Permits) (f : List ℕ → Bool) (law : (l : List ℕ) → allOf (labelChar P) l ≡ true → long P l ≡ false → f l ≡ true) where
+module _ (P : Permits) (f : List ℕ → Bool) (law : (l : List ℕ) → allOf (labelChar P) l ≡ true → long P l ≡ false → pretends P ofHost l ≡ false → f l ≡ true) where
   pub of-kept : {ls : List (List ℕ)} → allOf (allOf (labelChar P)) ls ≡ true → Every (Kept P) ls → allOf f ls ≡ true
   unfolding allOf
   of-kept w none = refl
-  of-kept w (also {x = l} k ks) = let a = both (allOf (labelChar P) l) _ w in rw (law l (a .0) (k .0 .few)) (of-kept (a .1) ks)
+  of-kept w (also {x = l} k ks) = let a = both (allOf (labelChar P) l) _ w in rw (law l (a .0) (k .0 .few) (k .1)) (of-kept (a .1) ks)
 
   pub each-label : (text : List ℕ) → Clear (hostTextRows P text) → allOf f (labels (normalForm text)) ≡ true
   each-label text c = let k = clear-host P text c in of-kept (labels-fit P (normalForm text) (k .0 .fit)) (k .1 .each)
@@ -62,8 +61,8 @@ module _ (P : Permits) where
   module _ (stretch : InStretch P) (text : List ℕ) where
     pub coded : Clear (hostTextRows P text) → anyOf (uncoded P) (labels (normalForm text)) ≡ false
     coded c =
-        all-none (λ l. not (uncoded P l)) (uncoded P) (λ l p. not-true (uncoded P l) p) (labels (normalForm text))
-        (each-label P (λ l. not (uncoded P l)) (λ l a k. label-fine P stretch l a (λ q. rw q at (left-size P l k))) text c)
+        all-not (uncoded P) (labels (normalForm text))
+        (each-label P (λ l. not (uncoded P l)) (λ l a k h. label-fine P stretch l a (λ q. rw q at (left-size P l k))) text c)
 
     pub never-14 : hostRules P text .number ≡ 14 → ⊥
     unfolding hostRules rows codedRows only

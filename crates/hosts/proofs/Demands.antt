@@ -8,10 +8,11 @@ use Prim.Native.Nat.{ℕ, _≤_}
 use lib.Dec.{ltb}
 use lib.ListN.{length}
 use borrow.Author.Tests.{le-ltb}
+use Rattle.lists.specs.Tests.{allOf}
 use Rattle.lists.specs.Front.{written}
 use Rattle.lists.specs.Rows.{first}
 use Rattle.lists.specs.declared.Answer.{Answer}
-use Rattle.lists.proofs.Tables.{passed-over, gave-all, gave-none}
+use Rattle.lists.proofs.Tables.{passed-over, clear, refusing, accepted-clear, gave-all, gave-none}
 use Rattle.normal.specs.Normal.{normalForm}
 use Rattle.rules.specs.Permits.{Permits, Laws}
 use Rattle.rules.specs.Hosts.{hostTextRows}
@@ -22,7 +23,7 @@ use Rattle.fronts.specs.Fronts.{shown}
 use Rattle.ascii.specs.Ascii.{asciiForm}
 use Rattle.hosts.specs.Hosts.{rows, hostRules, HostGranted, hostJudged, callRows, hostFormed, HostForms}
 use Rattle.hosts.specs.declared.HostForm.{HostForm}
-use Rattle.hosts.proofs.Exactly.{number-granted}
+use Rattle.hosts.proofs.Exactly.{all-refuse, number-granted}
 
 module _ (P : Permits) {text before after : List ℕ} {r : HostForm} (F : HostForms P text before after r) where
   abbrev said : Answer
@@ -35,6 +36,13 @@ module _ (P : Permits) {text before after : List ℕ} {r : HostForm} (F : HostFo
 
   pub host-written : r .number ≡ 0 → (after ≡ written (asciiForm P (normalForm text)) before) × (r .length ≡ length (asciiForm P (normalForm text)))
   host-written z = let g = gave-all hostFormed _ _ before (F .gives) (sym number-is ∙ z) in (g .0, ap (λ (x : HostForm). x .length) (g .1))
+
+  -- there was room then, and the rules accept
+  pub host-accepts : r .number ≡ 0 → hostRules P text .number ≡ 0
+  unfolding callRows hostRules refusing allOf
+  host-accepts z =
+      let c = accepted-clear (callRows P text (length before)) (all-refuse P text) (sym number-is ∙ z) in
+      ap (λ (a : Answer). a .number) (clear (rows P text) (c .1))
 
   -- a refusal of any kind leaves the buffer as it was
   pub host-kept : (r .number ≡ 0 → ⊥) → (after ≡ before) × (r .length ≡ 0)

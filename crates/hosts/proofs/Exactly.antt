@@ -23,7 +23,7 @@ use Rattle.hosts.proofs.Coded.{coded}
 
 module _ (P : Permits) (text : List ℕ) where
   -- every row refuses
-  all-refuse : refusing (rows P text) ≡ true
+  pub all-refuse : refusing (rows P text) ≡ true
   unfolding rows codedRows refusing allOf
   all-refuse = all-append (λ (r : Row). ltb 0 (r .number)) (hostTextRows P text) (codedRows P (normalForm text)) ∙ rw (host-refuses P text)
 

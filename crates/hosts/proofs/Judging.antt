@@ -20,8 +20,8 @@ use Rattle.normal.specs.Normal.{normalForm}
 use Rattle.normal.proofs.Laws.{no-longer}
 use Rattle.rules.specs.Labels.{labels}
 use Rattle.rules.specs.Permits.{Permits, isEmpty, labelChar}
-use Rattle.rules.specs.Rules.{unfit, long, frontRows}
-use Rattle.rules.specs.Hosts.{eachRows, hostRows, hostTextRows}
+use Rattle.rules.specs.Rules.{unfit, long, pretends, frontRows}
+use Rattle.rules.specs.Hosts.{ofHost, eachRows, hostRows, hostTextRows}
 use Rattle.rules.proofs.ByName.{clear-kept, kept-cleared, clear-host, clear-front, front-cleared}
 use Rattle.rules.proofs.Cuts.{labels-fit}
 use Rattle.rules.proofs.Derived.{left-size}
@@ -40,8 +40,8 @@ use Rattle.hosts.proofs.Coded.{of-kept, each-label}
 use Rattle.hosts.proofs.Exactly.{number-clear}
 
 -- the ASCII form of a label has at most 63 octets, if the coder takes it
-fitting : (P : Permits) (l : List ℕ) → allOf (labelChar P) l ≡ true → long P l ≡ false → writable P l ≡ true
-fitting P l a k = label-writable P l a (λ q. rw q at (left-size P l k))
+fitting : (P : Permits) (l : List ℕ) → allOf (labelChar P) l ≡ true → long P l ≡ false → pretends P ofHost l ≡ false → writable P l ≡ true
+fitting P l a k h = label-writable P l a (λ q. rw q at (left-size P l k))
 
 -- ---- the labels of a form: 5, 6, label by label, then 14 and 19
 

@@ -5,5 +5,6 @@ pub mod Coded
 pub mod Exactly
 mod Judging
 pub mod Demands
+pub mod OneForm
 pub mod InForce
 pub mod Unique

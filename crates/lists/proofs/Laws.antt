@@ -1,14 +1,14 @@
 -- What a test that comes out true, or false, says: on Bools, on ranges, on lists.
 -- Assumes nothing.
 use mathlib.Core.Path.{_≡_, refl, sym, _∙_}
-use mathlib.Core.Bool.{Bool, true, false, _&&_, _||_, true≢false, false≢true}
+use mathlib.Core.Bool.{Bool, true, false, not, _&&_, _||_, true≢false, false≢true}
 use mathlib.Core.List.{List, [], _∷_, _++_}
 use mathlib.Core.Logic.{_⊎_, inl, inr, ⊎-elim}
 use Prim.Native.Nat.{ℕ, zero, suc, _≤_, _<_}
 use native.Mathlib.Omega.{arith}
 use lib.Dec.{eqb, leb}
 use lib.ListN.{length}
-use borrow.Author.Tests.{le-leb, leb-true, eqb-true, eq-eqb}
+use borrow.Author.Tests.{le-leb, leb-true, eqb-true, eq-eqb, not-true}
 use Rattle.lists.specs.Tests.{pick, within, allOf, anyOf, indexOf, elem, same}
 
 -- ---- conjunction and disjunction
@@ -106,6 +106,10 @@ all-none f g imp [] e = refl
 all-none f g imp (x ∷ xs) e =
     let p = both (f x) (allOf f xs) e in
     rw (imp x (p .0)) (all-none f g imp xs (p .1))
+
+-- what fails of all holds of none
+pub all-not : {A : Type 0} (g : A → Bool) (l : List A) → allOf (λ c. not (g c)) l ≡ true → anyOf g l ≡ false
+all-not g = all-none (λ c. not (g c)) g (λ c. not-true (g c))
 
 -- where f holds of all, g of none, and what f holds of is g's or h's, h holds of all
 pub all-but : {A : Type 0} (f g h : A → Bool) (imp : (c : A) → f c ≡ true → g c ≡ false → h c ≡ true) (l : List A)

@@ -13,7 +13,7 @@ use Rattle.lists.specs.Tests.{within, allOf, anyOf}
 use Rattle.lists.specs.Front.{written}
 use Rattle.lists.specs.Rows.{Row, row, first, given}
 use Rattle.lists.specs.declared.Answer.{Answer}
-use Rattle.lists.proofs.Laws.{all-none}
+use Rattle.lists.proofs.Laws.{all-not}
 use Rattle.lists.proofs.Tables.{clear, clear-before, refused-before, hit, passed-over, of-rows}
 use Rattle.characters.specs.Characters.{alnum, asciiSet}
 use Rattle.normal.specs.Normal.{normalForm}
@@ -39,8 +39,8 @@ module _ (P : Permits) (stretch : InStretch P) where
     pub no-14 : rules P text .number ≡ 0 → anyOf (uncoded P) (labels (normalForm text)) ≡ false
     unfolding rules verdict
     no-14 e =
-        all-none (λ l. not (uncoded P l)) (uncoded P) (λ l p. not-true (uncoded P l) p) (labels (normalForm text))
-        (each-label P (λ l. not (uncoded P l)) (λ l a k. label-fine P stretch l a (λ q. rw q at (left-size P l k))) (λ l a m. label-fine P stretch l a (λ q. middle-length P short l m))
+        all-not (uncoded P) (labels (normalForm text))
+        (each-label P (λ l. not (uncoded P l)) (λ l a k h. label-fine P stretch l a (λ q. rw q at (left-size P l k))) (λ l a m. label-fine P stretch l a (λ q. middle-length P short l m))
         (label-fine P stretch jp jp-chars (λ q. unfold jp in omega arith)) text (text-cleared P text e) .0)
 
     -- with room the call for the ASCII form says what the rules say: to an accepted name row 14 does not apply, and of another a row before it is given

@@ -17,8 +17,8 @@ use Rattle.lists.proofs.Laws.{both, or-right, same-is}
 use Rattle.normal.specs.Normal.{normalForm}
 use Rattle.rules.specs.Labels.{labels}
 use Rattle.rules.specs.Permits.{Permits, ShortMiddles, labelChar, middle}
-use Rattle.rules.specs.Rules.{isJapanese, long, jp, textRows, refused}
-use Rattle.rules.proofs.ByName.{Passed, clear-text}
+use Rattle.rules.specs.Rules.{isJapanese, long, ofName, pretends, jp, textRows, refused}
+use Rattle.rules.proofs.ByName.{Passed, Honest, clear-text}
 use Rattle.rules.proofs.Cuts.{labels-fit}
 use Rattle.rules.proofs.Derived.{left-size, middle-length, two-or-three}
 use Rattle.ascii.specs.Labels.{high}
@@ -33,29 +33,29 @@ use Rattle.names.proofs.Answering.{accepted-as, ascii-uncoded, ascii-ac
 
 -- ---- a law of each label of an accepted name
 
-module _ (P : Permits) (f : List ℕ → Bool) (left : (l : List ℕ) → allOf (labelChar P) l ≡ true → long P l ≡ false → f l ≡ true)
+module _ (P : Permits) (f : List ℕ → Bool) (left : (l : List ℕ) → allOf (labelChar P) l ≡ true → long P l ≡ false → pretends P ofName l ≡ false → f l ≡ true)
     (mid : (l : List ℕ) → allOf (labelChar P) l ≡ true → middle P l ≡ true → f l ≡ true) (last : f jp ≡ true) where
   jp-last : (l : List ℕ) → same l jp ≡ true → f l ≡ true
   jp-last l e = ap f (same-is l jp e) ∙ last
 
-  of-passed : (ls : List (List ℕ)) → Passed P ls → allOf (allOf (labelChar P)) ls ≡ true → (allOf f ls ≡ true) × (length ls ≤ 3)
+  of-passed : (ls : List (List ℕ)) → Passed P ls → Honest P ls → allOf (allOf (labelChar P)) ls ≡ true → (allOf f ls ≡ true) × (length ls ≤ 3)
   unfolding allOf
-  of-passed [] N a = (refl, omega arith)
-  of-passed (l ∷ []) N a = absurd (⊎-elim (λ e. omega arith) (λ e. omega arith) (two-or-three 1 (P .three) (N .count)))
-  of-passed (l ∷ m ∷ []) N a =
+  of-passed [] N h a = (refl, omega arith)
+  of-passed (l ∷ []) N h a = absurd (⊎-elim (λ e. omega arith) (λ e. omega arith) (two-or-three 1 (P .three) (N .count)))
+  of-passed (l ∷ m ∷ []) N h a =
       let p = both (allOf (labelChar P) l) _ a in
-      (rw (left l (p .0) (N .left .few), jp-last m (N .last)), omega arith)
-  of-passed (l ∷ m ∷ n ∷ []) N a =
+      (rw (left l (p .0) (N .left .few) h, jp-last m (N .last)), omega arith)
+  of-passed (l ∷ m ∷ n ∷ []) N h a =
       let p = both (allOf (labelChar P) l) _ a in
       let q = both (allOf (labelChar P) m) _ (p .1) in
-      (rw (left l (p .0) (N .left .few), mid m (q .0) (not-false (middle P m) (N .mid)), jp-last n (N .last)), omega arith)
-  of-passed (l ∷ m ∷ n ∷ o ∷ ls) N a =
+      (rw (left l (p .0) (N .left .few) h, mid m (q .0) (not-false (middle P m) (N .mid)), jp-last n (N .last)), omega arith)
+  of-passed (l ∷ m ∷ n ∷ o ∷ ls) N h a =
       absurd (⊎-elim (λ e. omega arith) (λ e. omega arith) (two-or-three (length (l ∷ m ∷ n ∷ o ∷ ls)) (P .three) (N .count)))
 
   pub each-label : (text : List ℕ) → Clear (textRows P text) → (allOf f (labels (normalForm text)) ≡ true) × (length (labels (normalForm text)) ≤ 3)
   each-label text c =
       let k = clear-text P text c in
-      of-passed (labels (normalForm text)) (k .1) (labels-fit P (normalForm text) (k .0 .fit))
+      of-passed (labels (normalForm text)) (k .1) (k .2) (labels-fit P (normalForm text) (k .0 .fit))
 
 -- ---- of at most 63 characters where it is not coded
 
@@ -66,7 +66,7 @@ jp-writable P = or-right (isJapanese P (0x6A ∷ 0x70 ∷ [])) true refl
 module _ (P : Permits) (short : ShortMiddles P) (text : List ℕ) where
   pub accepted-writable : Clear (textRows P text) → Writable P (normalForm text) 192
   accepted-writable c =
-      let w = each-label P (writable P) (λ l a k. label-writable P l a (λ q. rw q at (left-size P l k)))
+      let w = each-label P (writable P) (λ l a k h. label-writable P l a (λ q. rw q at (left-size P l k)))
       (λ l a m. label-writable P l a (λ q. let h = middle-length P short l m in omega arith)) (jp-writable P) text c in
       record { fit = w .0; few = omega (arith, w .1) }
 

@@ -7,5 +7,6 @@ pub mod UsualName
 pub mod Unique
 pub mod Coded
 pub mod Demands
+pub mod OneForm
 pub mod Minus
 pub mod Hoping

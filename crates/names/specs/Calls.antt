@@ -1,6 +1,8 @@
 -- What the calls on a name answer, and what they leave in the buffer that is lent to them: document 01, 'Numbers a
 -- call may answer'.
+use mathlib.Core.Bool.{false}
 use mathlib.Core.List.{List, [], _∷_, _++_}
+use mathlib.Core.Path.{_≡_}
 use Prim.Native.Nat.{ℕ}
 use lib.Dec.{ltb}
 use lib.ListN.{length}
@@ -69,6 +71,11 @@ asciiFormed v n = record { number = v .number; place = v .place; class = v .clas
 -- the same of this one
 abbrev pub asciiSaid : AsciiForm → Verdict
 asciiSaid r = record { number = r .number; place = r .place; class = r .class }
+
+-- a text is accepted, and its ASCII form is given: 14 does not apply either
+pub record FormGiven (P : Permits) (text : List ℕ) : Type 0 where
+  pub accepted : rules P text .number ≡ 0
+  pub coded : anyOf (uncoded P) (labels (normalForm text)) ≡ false
 
 abbrev pub AsciiForms : Permits → List ℕ → List ℕ → List ℕ → AsciiForm → Type 0
 AsciiForms P text before after r =

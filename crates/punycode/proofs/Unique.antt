@@ -67,7 +67,7 @@ pub own-encoding : (l : List ℕ) → encodable l ≡ true → length (ace l) �
 own-encoding l h k = record { fit = h; is = lower-all (ace l) (ace-ldh l h); short = k }
 
 -- the number is 0 where the label is encodable and its encoding is short enough, and only there
-number-zero : (l : List ℕ) (room : ℕ) → coderNumber l room ≡ 0 → (encodable l ≡ true) × (length (ace l) ≤ 63)
+pub number-zero : (l : List ℕ) (room : ℕ) → coderNumber l room ≡ 0 → (encodable l ≡ true) × (length (ace l) ≤ 63)
 unfolding coderNumber
 number-zero l room e = go (ltb room 63) (encodable l) (leb (length (ace l)) 63) refl refl e
   where

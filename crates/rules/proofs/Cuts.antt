@@ -115,6 +115,15 @@ labels-cut (x ∷ xs) r e =
     let h = neither (period x) (anyOf period xs) e in
     rw (h .0, labels-cut xs r (h .1))
 
+-- labels without a period, joined and cut again, are the same labels
+pub labels-join : (ls : List (List ℕ)) → 1 ≤ length ls → anyOf (anyOf period) ls ≡ false → labels (join ls) ≡ ls
+unfolding anyOf join
+labels-join [] h e = absurd (omega arith)
+labels-join (l ∷ []) h e = labels-one l (neither (anyOf period l) _ e .0)
+labels-join (l ∷ m ∷ ls) h e =
+    let n = neither (anyOf period l) _ e in
+    labels-cut l (join (m ∷ ls)) (n .0) ∙ ap (λ (ms : List (List ℕ)). l ∷ ms) (labels-join (m ∷ ls) (omega arith) (n .1))
+
 -- ---- the first label ends at the first period
 
 pub last-label : (t : List ℕ) → length t ≤ indexOf period t → labels t ≡ t ∷ []

@@ -6,13 +6,16 @@ use mathlib.Core.Bool.{Bool, true, false, not, _&&_, false≢true, and-false}
 use mathlib.Core.List.{List, [], _∷_, _++_}
 use mathlib.Core.Logic.{_↔_}
 use Prim.Native.Nat.{ℕ}
-use lib.ListN.{getD}
+use native.Mathlib.Omega.{arith}
+use lib.ListN.{getD, take}
+use lib.Seq.{getD-take}
 use borrow.Author.Tests.{not-true}
-use Rattle.lists.proofs.Laws.{both, refuted, clash}
+use Rattle.lists.specs.Tests.{anyOf, same}
+use Rattle.lists.proofs.Laws.{both, or-right, refuted, clash, same-is}
 use Rattle.characters.specs.Characters.{hyphen}
 use Rattle.rules.specs.Labels.{labels}
-use Rattle.rules.specs.Permits.{Permits, Laws, middle}
-use Rattle.rules.specs.Rules.{isJapanese, hyphenPair, ofName, pretends, Sound}
+use Rattle.rules.specs.Permits.{Permits, jaChar, Laws, middle, seemsEncoded}
+use Rattle.rules.specs.Rules.{isJapanese, hyphenPair, Asks, ofName, pretends, Sound}
 use Rattle.rules.specs.Grammar as G
 use Rattle.rules.specs.Pretends.{PAIR, pair, PRETENDS, pretending, Admitted}
 use Rattle.rules.specs.declared.Class.{Class}
@@ -50,6 +53,21 @@ pretends-pair P l e = let h = both (hyphenPair l) (not (isJapanese P l)) e in (n
 pub japanese-honest : (P : Permits) (l : List ℕ) → isJapanese P l ≡ true → pretends P ofName l ≡ false
 unfolding pretends
 japanese-honest P l e = ap (λ (j : Bool). hyphenPair l && not j) e ∙ and-false (hyphenPair l)
+
+-- ---- what seems encoded has the pair, so it pretends, whatever the family of names asks
+
+encoded-pair : (l : List ℕ) → same (take 4 l) (0x78 ∷ 0x6E ∷ 0x2D ∷ 0x2D ∷ []) ≡ true → hyphenPair l ≡ true
+unfolding hyphenPair hyphen
+encoded-pair l e =
+    let begins = same-is (take 4 l) (0x78 ∷ 0x6E ∷ 0x2D ∷ 0x2D ∷ []) e in
+    rw (← getD-take 4 l 2 0 (omega arith), ← getD-take 4 l 3 0 (omega arith), begins)
+
+pub honest-plain : (P : Permits) (A : Asks) (l : List ℕ) → pretends P A l ≡ false → seemsEncoded P l ≡ false
+unfolding pretends seemsEncoded isJapanese
+honest-plain P A l h =
+    refuted (seemsEncoded P l) (λ e.
+    let b = both _ (not (anyOf (jaChar P) l)) e in
+    clash {b = pretends P A l} (rw (encoded-pair l (b .0)) (or-right (A .everyPair) _ (b .1))) h)
 
 module _ (P : Permits) (L : Laws P) where
   -- ---- a name and its leftmost label

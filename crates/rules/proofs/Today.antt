@@ -7,7 +7,7 @@ use mathlib.Core.List.{List}
 use Prim.Native.Nat.{ℕ}
 use lib.Dec.{leb}
 use lib.ListN.{length}
-use Rattle.lists.specs.Tests.{within, allOf, anyOf, elem}
+use Rattle.lists.specs.Tests.{within, allOf, anyOf, elem, same}
 use Rattle.characters.specs.Compose.{voiced, repeats, halfVoiced, composed}
 use Rattle.characters.proofs.Pairs.{of-base}
 use Rattle.characters.specs.Kanji.{kanji}
@@ -15,7 +15,7 @@ use Rattle.characters.specs.KanjiBits.{kanjiBits}
 use Rattle.characters.proofs.Bounds.{with-bounds}
 use Rattle.characters.proofs.Lent as Lent
 use Rattle.characters.specs.Characters.{alnum, hyphen, asciiSet, hiragana, katakana, signs, japaneseBy, japanese}
-use Rattle.rules.specs.Permits.{Permits, InStretch, ShortMiddles, Laws, jaChar, labelChar, isEmpty}
+use Rattle.rules.specs.Permits.{Permits, InStretch, ShortMiddles, PlainMiddles, Laws, jaChar, labelChar, isEmpty, seemsEncoded}
 use Rattle.rules.specs.Prefectures.{prefectures}
 use Rattle.rules.specs.Editions.{today, todayWith}
 use Rattle.rules.specs.Hopeful.{settled, HopeLaws}
@@ -48,6 +48,15 @@ today-laws = record {
   middle-three = λ l e. refl;
 }
 
+-- none of the 94 begins like an encoded label, whatever an edition takes for Japanese
+all-plain : (P : Permits) → allOf (λ (l : List ℕ). not (seemsEncoded P l)) prefectures ≡ true
+unfolding allOf same seemsEncoded prefectures
+all-plain P = refl
+
+pub today-plain : PlainMiddles today
+unfolding today
+today-plain = all-plain today
+
 -- ---- what hope asks
 
 all-settled : allOf (allOf settled) prefectures ≡ true
@@ -77,7 +86,7 @@ lent = λ i. record { japanese = λ c. Lent.lent c i; middles = prefectures; thr
 pub lending : (Q : Permits → Type 0) {table : List ℕ} → table ≡ kanjiBits → Q (todayWith table) → Q today
 lending Q e q = subst Q (ap todayWith e ∙ lent) q
 
--- two of the laws hold whatever table is lent
+-- three of the laws hold whatever table is lent
 pub lent-stretch : (table : List ℕ) → InStretch (todayWith table)
 unfolding todayWith jaChar
 lent-stretch table c e = with-bounds table c e
@@ -85,3 +94,7 @@ lent-stretch table c e = with-bounds table c e
 pub lent-short : (table : List ℕ) → ShortMiddles (todayWith table)
 unfolding todayWith
 lent-short table = all-short
+
+pub lent-plain : (table : List ℕ) → PlainMiddles (todayWith table)
+unfolding todayWith
+lent-plain table = all-plain (todayWith table)

@@ -4,6 +4,7 @@
 pub mod characters;
 pub mod coder;
 pub mod desk;
+pub mod duplicates;
 pub mod forms;
 pub mod hope;
 pub mod hosts;
@@ -127,5 +128,6 @@ pub fn all_lines() -> Vec<String> {
     labels::add(&mut file);
     hosts::add(&mut file);
     forms::add(&mut file);
+    duplicates::add(&mut file);
     file.into_lines()
 }

@@ -1,0 +1,142 @@
+-- One name, one ASCII form: no label of an accepted name seems encoded, the leftmost by rule 17, a prefecture label by the law, the last since
+-- it is "jp"; so the ASCII forms of two are equal exactly where the normal forms are (ascii, proofs/OneForm). Without rule 17 they are not, nor
+-- without the law: there is a pair for each.
+-- Assumes nothing.
+use mathlib.Core.Path.{_≡_, refl, sym, ap, _∙_}
+use mathlib.Core.Bool.{true, not}
+use mathlib.Core.List.{List}
+use mathlib.Core.Logic.{_↔_}
+use Prim.Native.Nat.{ℕ}
+use lib.ListN.{length, take}
+use Rattle.lists.specs.Tests.{within, allOf, anyOf, elem, same}
+use Rattle.lists.specs.Rows.{first}
+use Rattle.lists.specs.declared.Answer.{Answer}
+use Rattle.lists.proofs.Laws.{clash, all-not, same-refl}
+use Rattle.lists.proofs.Fronts.{front}
+use Rattle.lists.proofs.Tables.{clear, gave-all}
+use Rattle.characters.specs.KanjiBits.{kanjiBits}
+use Rattle.characters.specs.Characters.{alnum, hyphen, asciiSet, hiragana, katakana, signs, japaneseBy, kanjiWith, japaneseWith}
+use Rattle.characters.proofs.Bounds.{with-bounds}
+use Rattle.normal.specs.Normal.{normalForm}
+use Rattle.rules.specs.Labels.{labels}
+use Rattle.rules.specs.Permits.{Permits, InStretch, ShortMiddles, PlainMiddles, Laws, jaChar, labelChar, isEmpty, seemsEncoded}
+use Rattle.rules.specs.Rules.{ofName, jp, textRows, verdict, rules, rulesBut}
+use Rattle.rules.specs.Editions.{today, todayWith}
+use Rattle.rules.specs.declared.Class.{Class}
+use Rattle.rules.specs.declared.Class.the-variants.{General}
+use Rattle.rules.specs.declared.Verdict.{Verdict}
+use Rattle.rules.proofs.ByName.{clear-text, text-cleared}
+use Rattle.rules.proofs.Cuts.{labels-fit}
+use Rattle.rules.proofs.Derived.{of-middle}
+use Rattle.rules.proofs.Pretends.{honest-plain}
+use Rattle.rules.proofs.Today.{today-laws, today-plain, lending, lent-plain}
+use Rattle.ascii.specs.Ascii.{asciiForm, OneForm}
+use Rattle.ascii.specs.Examples.{kana, encoded}
+use Rattle.ascii.proofs.OneForm.{Unmistaken}
+use Rattle.ascii.proofs.OneForm as Ascii
+use Rattle.names.specs.Calls.{asciiRows, FormGiven, AsciiForms}
+use Rattle.names.specs.Shared.{Share, general, shared, twins, shared-middles}
+use Rattle.names.specs.declared.AsciiForm.{AsciiForm}
+use Rattle.names.proofs.Answering.{ascii-passed}
+use Rattle.names.proofs.Coded.{no-14}
+use Rattle.names.proofs.Enough.{each-label}
+
+jp-plain : (P : Permits) → not (seemsEncoded P jp) ≡ true
+unfolding seemsEncoded same jp
+jp-plain P = refl
+
+module _ (P : Permits) (plain : PlainMiddles P) where
+  -- ---- over the rules
+
+  pub unmistaken : {text : List ℕ} → FormGiven P text → Unmistaken P (labels (normalForm text))
+  unfolding rules verdict
+  unmistaken {text} G =
+      let c = text-cleared P text (G .accepted) in
+      record {
+        fit = labels-fit P (normalForm text) (clear-text P text c .0 .fit);
+        coded = G .coded;
+        plain =
+            all-not (seemsEncoded P) (labels (normalForm text))
+            (each-label P (λ l. not (seemsEncoded P l)) (λ l a k h. ap not (honest-plain P ofName l h))
+            (λ l a m. of-middle P (λ l. not (seemsEncoded P l)) l plain m) (jp-plain P) text c .0);
+      }
+
+  pub one-form : (s t : List ℕ) → FormGiven P s → FormGiven P t → OneForm P (normalForm s) (normalForm t)
+  one-form s t G H = Ascii.one-form P (normalForm s) (normalForm t) (unmistaken G) (unmistaken H)
+
+  -- the form of an accepted text is always given
+  pub one-form-accepted : InStretch P → ShortMiddles P → (s t : List ℕ) → rules P s .number ≡ 0 → rules P t .number ≡ 0 → OneForm P (normalForm s) (normalForm t)
+  one-form-accepted stretch short s t p q =
+      one-form s t (record { accepted = p; coded = no-14 P stretch short s p }) (record { accepted = q; coded = no-14 P stretch short t q })
+
+-- ---- of the calls
+
+-- a call that answers 0 gives the form
+pub rows-give : (P : Permits) (text : List ℕ) (room : ℕ) → first (asciiRows P text room) .number ≡ 0 → FormGiven P text
+unfolding rules verdict
+rows-give P text room e =
+    let k = ascii-passed P text room e in
+    record { accepted = ap (λ (a : Answer). a .number) (clear (textRows P text) (k .0)); coded = k .1 }
+
+module _ (P : Permits) {text before after : List ℕ} {r : AsciiForm} (a : AsciiForms P text before after r) (z : r .number ≡ 0) where
+  accepts : first (asciiRows P text (length before)) .number ≡ 0
+  unfolding verdict
+  accepts = sym (ap (λ (x : AsciiForm). x .number) (a .gives .result)) ∙ z
+
+  gave : FormGiven P text
+  gave = rows-give P text (length before) accepts
+
+  octets : take (r .length) after ≡ asciiForm P (normalForm text)
+  octets =
+      let g = gave-all _ _ _ before (a .gives) accepts in
+      rw (ap (λ (x : AsciiForm). x .length) (g .1), g .0) (front (asciiForm P (normalForm text)) before)
+
+-- what two that answered 0 wrote, each in its own buffer, is equal exactly where the normal forms are
+abbrev pub OneWritten : Permits → Type 0
+OneWritten P = (s t before after before′ after′ : List ℕ) (r q : AsciiForm) → AsciiForms P s before after r → AsciiForms P t before′ after′ q
+    → r .number ≡ 0 → q .number ≡ 0 → (take (r .length) after ≡ take (q .length) after′) ↔ (normalForm s ≡ normalForm t)
+
+pub one-written : (P : Permits) → PlainMiddles P → OneWritten P
+one-written P plain s t before after before′ after′ r q a b y z = rw (octets P a y, octets P b z) (one-form P plain s t (gave P a y) (gave P b z))
+
+-- ---- at the edition in force
+
+pub one-form-today : (s t : List ℕ) → rules today s .number ≡ 0 → rules today t .number ≡ 0 → OneForm today (normalForm s) (normalForm t)
+one-form-today = one-form-accepted today today-plain (today-laws .stretch) (today-laws .middle-short)
+
+pub one-written-today : OneWritten today
+one-written-today = one-written today today-plain
+
+-- and of the call that is lent a table of kanji, whatever it holds
+pub one-written-lent : (table : List ℕ) → OneWritten (todayWith table)
+one-written-lent table = one-written (todayWith table) (lent-plain table)
+
+-- ---- what it needs
+
+-- where two names share a form it does not hold
+breaks : {said : Permits → List ℕ → Verdict} {P : Permits} {k : Class} {s t : List ℕ} → Share said P k s t
+    → ((a b : List ℕ) → said P a .number ≡ 0 → said P b .number ≡ 0 → OneForm P (normalForm a) (normalForm b)) → ⊥
+breaks {s = s} {t = t} S all =
+    let e = all s t (ap (λ (v : Verdict). v .number) (S .one)) (ap (λ (v : Verdict). v .number) (S .other)) .0 (S .alike) in
+    clash (same-refl (normalForm t)) (ap (λ (x : List ℕ). same x (normalForm t)) (sym e) ∙ S .apart)
+
+pub shared-today : Share (rulesBut 17) today General (general encoded) (general kana)
+shared-today = lending (λ (P : Permits). Share (rulesBut 17) P General (general encoded) (general kana)) refl shared
+
+-- rule 17
+pub needs-17 : ((s t : List ℕ) → rulesBut 17 today s .number ≡ 0 → rulesBut 17 today t .number ≡ 0 → OneForm today (normalForm s) (normalForm t)) → ⊥
+needs-17 = breaks shared-today
+
+-- and, of an edition that keeps all other laws, that no prefecture label seems encoded
+pub twins-laws : Laws twins
+unfolding within allOf anyOf elem alnum hyphen asciiSet hiragana katakana signs japaneseBy kanjiWith japaneseWith jaChar labelChar isEmpty twins
+twins-laws = record {
+  stretch = λ c e. with-bounds kanjiBits c e;
+  middle-chars = refl;
+  middle-filled = refl;
+  middle-short = refl;
+  middle-three = λ l e. refl;
+}
+
+pub needs-plain : ((s t : List ℕ) → rules twins s .number ≡ 0 → rules twins t .number ≡ 0 → OneForm twins (normalForm s) (normalForm t)) → ⊥
+needs-plain = breaks shared-middles

@@ -1,0 +1,120 @@
+//! One name, one ASCII form (document 02, K4): of two accepted texts the ASCII
+//! forms are equal where the normal forms are, and nowhere else. Hosts likewise.
+
+use reference::answer::{Class, Refusal};
+use reference::cases::duplicates::stand_ins;
+use reference::cases::hosts::HostMaker;
+use reference::cases::random::NameMaker;
+use reference::random::Random;
+use reference::{cases, grammar, host, name, normal, points};
+use std::collections::HashMap;
+
+/// The forms that were met, each with its normal form, and the other way round.
+#[derive(Default)]
+struct Register {
+    normal_of: HashMap<String, Vec<u32>>,
+    form_of: HashMap<Vec<u32>, String>,
+    met_again: usize,
+}
+
+impl Register {
+    fn enter(&mut self, form: &str, text: &[u32]) {
+        let normal = normal::normal_form(text);
+        self.met_again += usize::from(self.normal_of.contains_key(form));
+        let held = self.normal_of.entry(form.to_string()).or_insert_with(|| normal.clone());
+        assert_eq!(*held, normal, "two normal forms for {form}");
+        let held = self.form_of.entry(normal).or_insert_with(|| form.to_string());
+        assert_eq!(held, form, "two forms for {text:x?}");
+    }
+}
+
+/// The texts of the cases of these calls, and of a maker two spellings each.
+fn texts(calls: &str, made: impl Fn(&mut Random) -> Vec<u32>) -> Vec<Vec<u32>> {
+    let mut random = Random::seeded(44);
+    let maker = NameMaker::default();
+    let lines = cases::all_lines();
+    let chosen = lines.iter().filter(|line| calls.contains(&line[..1]));
+    let mut texts: Vec<Vec<u32>> = chosen.map(|line| cases::numbers_of(line)).collect();
+    for _ in 0..20_000 {
+        let text = made(&mut random);
+        texts.push(maker.respell(&normal::normal_form(&text), &mut random));
+        texts.push(text);
+    }
+    texts
+}
+
+#[test]
+fn names_have_one_form_each() {
+    let maker = NameMaker::default();
+    let mut register = Register::default();
+    for text in texts("NCAL", |random| maker.typed_name(random)) {
+        if let Ok((form, _)) = name::ascii_form(&text) {
+            register.enter(&form, &text);
+        }
+    }
+    let met = (register.form_of.len(), register.met_again);
+    assert!(met.0 > 15_000 && met.1 > 15_000, "{met:?}");
+}
+
+#[test]
+fn hosts_have_one_form_each() {
+    let maker = HostMaker::default();
+    let mut register = Register::default();
+    for text in texts("HhGgVvR", |random| maker.typed_host(random)) {
+        if let Ok(form) = host::ascii_form(&text) {
+            register.enter(&form, &text);
+        }
+    }
+    let met = (register.form_of.len(), register.met_again);
+    assert!(met.0 > 15_000 && met.1 > 15_000, "{met:?}");
+}
+
+/// Only a text with an encoding typed in place of a label could share the form.
+/// It is refused: with 17 where the encoding is leftmost, else with 12.
+#[test]
+fn nothing_stands_in_for_a_name() {
+    let maker = NameMaker::default();
+    let (mut leftmost, mut middle) = (0, 0);
+    for text in texts("A", |random| maker.typed_name(random)) {
+        let Ok(accepted) = name::check(&text) else { continue };
+        for other in stand_ins(&text) {
+            let kept = normal::labels(&other)[0] == accepted.labels[0];
+            let number = if kept { 12 } else { 17 };
+            assert_eq!(name::check(&other), Err(Refusal::plain(number)), "{text:x?}");
+            (leftmost, middle) = (leftmost + usize::from(!kept), middle + usize::from(kept));
+        }
+    }
+    assert!(leftmost > 10_000 && middle > 1_000, "{leftmost} leftmost, {middle} in the middle");
+}
+
+/// Of a host it is 17 at the first such label, wherever that stands.
+#[test]
+fn nothing_stands_in_for_a_host() {
+    let maker = HostMaker::default();
+    let mut later = 0;
+    for text in texts("H", |random| maker.typed_host(random)) {
+        if host::ascii_form(&text).is_err() {
+            continue;
+        }
+        let labels = normal::labels(&normal::normal_form(&text));
+        for other in stand_ins(&text) {
+            let typed = normal::labels(&other);
+            let place = (0..labels.len()).find(|at| typed[*at] != labels[*at]).unwrap();
+            assert_eq!(host::ascii_form(&other), Err(Refusal::at(17, place)), "{text:x?}");
+            later += usize::from(place > 0);
+        }
+    }
+    assert!(later > 10_000, "{later} past the first label");
+}
+
+/// Before K3 it was not so: document 004's grammar has both of these names, and
+/// the second, an ASCII label and jp, is its own ASCII form.
+#[test]
+fn without_17_two_names_shared_a_form() {
+    let (kana, plain) = (points("\u{3042}.jp"), points("xn--l8j.jp"));
+    assert_eq!(grammar::class_of(&kana), Some(Class::GeneralUse));
+    assert_eq!(grammar::class_of(&plain), Some(Class::GeneralUse));
+    assert_eq!(name::ascii_form(&kana), Ok(("xn--l8j.jp".to_string(), Class::GeneralUse)));
+    assert_eq!(stand_ins(&kana), [plain.clone()]);
+    assert_eq!(name::ascii_form(&plain), Err(Refusal::plain(17)));
+}
