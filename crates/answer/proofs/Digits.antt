@@ -79,7 +79,7 @@ number-bound P text room = leb-true _ 17 (of-rows (λ (a : Answer). leb (a .numb
 -- ---- so the digits of an answer say its number and its place
 
 module _ (P : Permits) (text : List ℕ) where
-  abbrev answered : Answer
+  abbrev pub answered : Answer
   answered = first (asciiRows P text 192)
 
   pub number-said : reading 0 (decimal (answered .number)) ≡ answered .number

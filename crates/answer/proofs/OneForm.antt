@@ -7,34 +7,30 @@ use mathlib.Core.List.{List, [], _∷_, _++_, append-assoc}
 use mathlib.Core.Logic.{_↔_}
 use Prim.Native.Nat.{ℕ, zero, suc, _+_, _/_, _%_}
 use native.Mathlib.Omega.{arith}
-use lib.Dec.{eqb, leb, ltb}
+use lib.Dec.{leb, ltb}
 use lib.ListN.{length, take, drop}
 use lib.Seq.{take-append-seam}
-use borrow.Author.Tests.{le-leb, leb-true, ne-eqb, eqb-true}
+use borrow.Author.Tests.{le-leb, eqb-true}
 use Rattle.lists.specs.Tests.{pick, within, allOf, anyOf, indexOf}
-use Rattle.lists.specs.Rows.{first}
-use Rattle.lists.specs.declared.Answer.{Answer}
-use Rattle.lists.proofs.Laws.{both, either, in-range, all-append, all-weaker, all-none}
+use Rattle.lists.proofs.Laws.{both, either, refuted, clash, all-append, all-none}
 use Rattle.lists.proofs.Scan.{first-past}
-use Rattle.characters.specs.Characters.{asciiSet}
+use Rattle.characters.specs.Characters.{alnum, hyphen, asciiSet}
 use Rattle.normal.specs.Normal.{normalForm}
 use Rattle.rules.specs.Labels.{period}
-use Rattle.rules.specs.Permits.{Permits, PlainMiddles}
+use Rattle.rules.specs.Permits.{Permits}
 use Rattle.rules.specs.Rules.{verdict}
+use Rattle.rules.specs.Pretends.{PlainMiddles}
 use Rattle.rules.specs.Editions.{today}
 use Rattle.rules.specs.declared.Class.{Class}
 use Rattle.rules.specs.declared.Class.the-variants.{None, General, Prefecture}
-use Rattle.rules.proofs.Sound.{ascii-range}
 use Rattle.rules.proofs.Today.{today-plain}
-use Rattle.ascii.specs.Ascii.{asciiForm}
-use Rattle.ascii.proofs.OneForm.{form-ascii}
-use Rattle.names.specs.Calls.{asciiRows}
-use Rattle.names.proofs.OneForm.{unmistaken, one-form, rows-give}
-use Rattle.unicode.specs.Utf8.{decoded}
+use Rattle.ascii.specs.Ascii.{asciiForm, inForm}
+use Rattle.names.specs.Calls.{FormGiven}
+use Rattle.names.proofs.OneForm.{given-ascii, one-form, rows-give}
 use Rattle.lines.specs.Lines.{lf}
-use Rattle.lines.specs.Fields.{tab, idOf, nameOf, idByte, goodId}
-use Rattle.answer.specs.Answer.{badLine, decimalBy, decimal, reading, letter, answerLine, badAnswer, goodAnswer, answerTo}
-use Rattle.answer.proofs.Digits.{said-full, number-said}
+use Rattle.lines.specs.Fields.{tab, idOf, idByte, goodId}
+use Rattle.answer.specs.Answer.{badLine, decimalBy, decimal, reading, letter, answerLine, badAnswer, textOf, goodAnswer, answerTo}
+use Rattle.answer.proofs.Digits.{said-full, answered, number-said}
 use Rattle.answer.proofs.Longest.{good-id}
 
 -- ---- the fields of an answer line: each ends at a tab or at the LF
@@ -47,17 +43,16 @@ unfoldable pub fieldOf : ℕ → List ℕ → List ℕ
 fieldOf zero line = take (indexOf ends line) line
 fieldOf (suc n) line = fieldOf n (drop (suc (indexOf ends line)) line)
 
--- a field is of bytes from 2D on, so that it holds no end
-abbrev Clean : List ℕ → Type 0
-Clean xs = allOf (leb 0x2D) xs ≡ true
-
-no-end : (xs : List ℕ) → Clean xs → anyOf ends xs ≡ false
+-- bytes of which a test holds that fails of both
+no-end : (f : ℕ → Bool) → f 0x09 ≡ false → f 0x0A ≡ false → (xs : List ℕ) → allOf f xs ≡ true → anyOf ends xs ≡ false
 unfolding ends tab lf
-no-end = all-none (leb 0x2D) ends (λ c h. let k = leb-true 0x2D c h in rw (ne-eqb c 0x09 (λ e. omega arith), ne-eqb c 0x0A (λ e. omega arith)))
+no-end f p q =
+    all-none f ends (λ c h.
+    refuted (ends c) (λ e. either (tab c) (lf c) e (λ t. clash h (ap f (eqb-true c 0x09 t) ∙ p)) (λ l. clash h (ap f (eqb-true c 0x0A l) ∙ q))))
 
-module _ (xs : List ℕ) (w : Clean xs) (c : ℕ) (ys : List ℕ) (e : ends c ≡ true) where
+module _ (xs : List ℕ) (none : anyOf ends xs ≡ false) (c : ℕ) (ys : List ℕ) (e : ends c ≡ true) where
   end-is : indexOf ends (xs ++ c ∷ ys) ≡ length xs
-  end-is = first-past ends xs c ys (no-end xs w) e
+  end-is = first-past ends xs c ys none e
 
   here : fieldOf 0 (xs ++ c ∷ ys) ≡ xs
   unfolding fieldOf
@@ -71,98 +66,74 @@ module _ (xs : List ℕ) (w : Clean xs) (c : ℕ) (ys : List ℕ) (e : ends c �
       past [] = refl
       past (x ∷ xs) = past xs
 
--- ---- what stands in them
+-- ---- no field holds an end
 
-digits-clean : (f n : ℕ) → Clean (decimalBy f n)
+digits-from : (f n : ℕ) → allOf (leb 0x30) (decimalBy f n) ≡ true
 unfolding decimalBy allOf
-digits-clean zero n = refl
-digits-clean (suc f) n = go (ltb n 10) (digits-clean f (n / 10))
+digits-from zero n = refl
+digits-from (suc f) n = go (ltb n 10) (digits-from f (n / 10))
   where
-    go : (b : Bool) → Clean (decimalBy f (n / 10)) → Clean (pick b ((0x30 + n) ∷ []) (decimalBy f (n / 10) ++ ((0x30 + n % 10) ∷ [])))
-    go true on = rw (le-leb 0x2D (0x30 + n) (omega arith))
-    go false on = all-append (leb 0x2D) (decimalBy f (n / 10)) _ ∙ rw (on, le-leb 0x2D (0x30 + n % 10) (omega arith))
+    go : (b : Bool) → allOf (leb 0x30) (decimalBy f (n / 10)) ≡ true → allOf (leb 0x30) (pick b ((0x30 + n) ∷ []) (decimalBy f (n / 10) ++ ((0x30 + n % 10) ∷ []))) ≡ true
+    go true on = rw (le-leb 0x30 (0x30 + n) (omega arith))
+    go false on = all-append (leb 0x30) (decimalBy f (n / 10)) _ ∙ rw (on, le-leb 0x30 (0x30 + n % 10) (omega arith))
 
-decimal-clean : (n : ℕ) → Clean (decimal n)
+number-none : (n : ℕ) → anyOf ends (decimal n) ≡ false
 unfolding decimal
-decimal-clean n = digits-clean 3 n
+number-none n = no-end (leb 0x30) refl refl (decimalBy 3 n) (digits-from 3 n)
 
-letter-clean : (k : Class) → Clean (letter k ∷ [])
-unfolding allOf letter
-letter-clean General = refl
-letter-clean Prefecture = refl
-letter-clean None = refl
+letter-none : (k : Class) → anyOf ends (letter k ∷ []) ≡ false
+unfolding ends tab lf anyOf letter
+letter-none General = refl
+letter-none Prefecture = refl
+letter-none None = refl
 
-from-range : (a b c : ℕ) → leb 0x2D a ≡ true → within a b c ≡ true → leb 0x2D c ≡ true
-from-range a b c l e = let r = in-range a b c e in le-leb 0x2D c (omega (arith, leb-true 0x2D a l))
+id-none : (line : List ℕ) → badLine line ≡ false → anyOf ends (idOf line) ≡ false
+unfolding goodId idByte within
+id-none line g = no-end idByte refl refl (idOf line) (both (within 1 32 (length (idOf line))) _ (good-id line g) .1)
 
-from-equal : (a c : ℕ) → leb 0x2D a ≡ true → eqb c a ≡ true → leb 0x2D c ≡ true
-from-equal a c l e = rw (eqb-true c a e) l
-
-id-clean : (id : List ℕ) → goodId id ≡ true → Clean id
-unfolding goodId idByte
-id-clean id g = all-weaker idByte (leb 0x2D) char id (both (within 1 32 (length id)) _ g .1)
-  where
-    char : (c : ℕ) → idByte c ≡ true → leb 0x2D c ≡ true
-    char c e =
-        either (within 0x41 0x5A c) _ e (from-range 0x41 0x5A c refl) (λ e.
-        either (within 0x61 0x7A c) _ e (from-range 0x61 0x7A c refl) (λ e.
-        either (within 0x30 0x39 c) _ e (from-range 0x30 0x39 c refl) (from-equal 0x2D c refl)))
-
-form-clean : (c : ℕ) → asciiSet c || period c ≡ true → leb 0x2D c ≡ true
-unfolding period
-form-clean c e = either (asciiSet c) (period c) e (λ p. le-leb 0x2D c (ascii-range c p .0)) (from-equal 0x2E c refl)
+form-none : (P : Permits) {text : List ℕ} → FormGiven P text → anyOf ends (asciiForm P (normalForm text)) ≡ false
+unfolding inForm asciiSet alnum hyphen within period
+form-none P {text} G = no-end inForm refl refl (asciiForm P (normalForm text)) (given-ascii P G)
 
 -- ---- the second and the fifth of them
 
-module _ (id : List ℕ) (w : Clean id) (n p : ℕ) (k : Class) (form : List ℕ) where
+module _ (id : List ℕ) (none : anyOf ends id ≡ false) (n p : ℕ) (k : Class) (form : List ℕ) where
   laid : answerLine id n p k form ≡ id ++ 0x09 ∷ (decimal n ++ 0x09 ∷ (decimal p ++ 0x09 ∷ (letter k ∷ 0x09 ∷ (form ++ 0x0A ∷ []))))
   unfolding answerLine
   laid = simp append-assoc
 
   second : fieldOf 1 (answerLine id n p k form) ≡ decimal n
   unfolding ends tab lf
-  second = ap (fieldOf 1) laid ∙ next id w 0x09 _ refl 0 ∙ here (decimal n) (decimal-clean n) 0x09 _ refl
+  second = ap (fieldOf 1) laid ∙ next id none 0x09 _ refl 0 ∙ here (decimal n) (number-none n) 0x09 _ refl
 
-  fifth : Clean form → fieldOf 4 (answerLine id n p k form) ≡ form
+  fifth : anyOf ends form ≡ false → fieldOf 4 (answerLine id n p k form) ≡ form
   unfolding ends tab lf
   fifth f =
       ap (fieldOf 4) laid
-      ∙ next id w 0x09 _ refl 3
-      ∙ next (decimal n) (decimal-clean n) 0x09 _ refl 2
-      ∙ next (decimal p) (decimal-clean p) 0x09 _ refl 1
-      ∙ next (letter k ∷ []) (letter-clean k) 0x09 _ refl 0
+      ∙ next id none 0x09 _ refl 3
+      ∙ next (decimal n) (number-none n) 0x09 _ refl 2
+      ∙ next (decimal p) (number-none p) 0x09 _ refl 1
+      ∙ next (letter k ∷ []) (letter-none k) 0x09 _ refl 0
       ∙ here form f 0x0A [] refl
 
 -- ---- the answer to a line
 
--- the name that a line holds, as a text
-unfoldable pub textOf : List ℕ → List ℕ
-textOf line = decoded (nameOf line) .codes
-
 module _ (P : Permits) (line : List ℕ) where
-  abbrev said : Answer
-  said = first (asciiRows P (textOf line) 192)
-
   module _ (g : badLine line ≡ false) where
-    id-is : Clean (idOf line)
-    id-is = id-clean (idOf line) (good-id line g)
+    number-field : fieldOf 1 (answerTo P line) ≡ decimal (answered P (textOf line) .number)
+    unfolding answerTo goodAnswer verdict
+    number-field = rw g (second (idOf line) (id-none line g) _ _ _ _)
 
-    number-field : fieldOf 1 (answerTo P line) ≡ decimal (said .number)
-    unfolding answerTo goodAnswer verdict textOf
-    number-field = rw g (second (idOf line) id-is _ _ _ _)
+    form-field : answered P (textOf line) .number ≡ 0 → fieldOf 4 (answerTo P line) ≡ asciiForm P (normalForm (textOf line))
+    unfolding answerTo goodAnswer
+    form-field z = rw (g, z) (fifth (idOf line) (id-none line g) _ _ _ (asciiForm P (normalForm (textOf line))) (form-none P (rows-give P (textOf line) 192 z)))
 
-    form-field : PlainMiddles P → said .number ≡ 0 → fieldOf 4 (answerTo P line) ≡ asciiForm P (normalForm (textOf line))
-    unfolding answerTo goodAnswer textOf
-    form-field plain z =
-        let clean = all-weaker _ (leb 0x2D) form-clean _ (form-ascii P _ (unmistaken P plain (rows-give P (textOf line) 192 z))) in
-        rw (g, z) (fifth (idOf line) id-is _ _ _ (asciiForm P (normalForm (textOf line))) clean)
-
-  -- a line whose second field is 0 is not bad, and its ASCII form is given
-  zero-said : fieldOf 1 (answerTo P line) ≡ 0x30 ∷ [] → (badLine line ≡ false) × (said .number ≡ 0)
-  unfolding allOf answerTo textOf badAnswer reading
+  -- a line whose second field is 0 is not bad, and the number of its name is 0
+  zero-said : fieldOf 1 (answerTo P line) ≡ 0x30 ∷ [] → (badLine line ≡ false) × (answered P (textOf line) .number ≡ 0)
+  unfolding ends tab lf anyOf answerTo badAnswer reading
   zero-said e = go (badLine line) refl
     where
-      go : (b : Bool) → badLine line ≡ b → (badLine line ≡ false) × (said .number ≡ 0)
+      go : (b : Bool) → badLine line ≡ b → (badLine line ≡ false) × (answered P (textOf line) .number ≡ 0)
       go true g =
           let bad : fieldOf 1 (answerTo P line) ≡ decimal 16 = rw g (second (0x2D ∷ []) refl 16 0 None (0x2D ∷ [])) in
           absurd (omega (arith, said-full 16 (omega arith), ap (reading 0) (sym bad ∙ e)))
@@ -174,7 +145,7 @@ module _ (P : Permits) (plain : PlainMiddles P) where
   one-field s t p q =
       let a = zero-said P s p in
       let b = zero-said P t q in
-      rw (form-field P s (a .0) plain (a .1), form-field P t (b .0) plain (b .1))
+      rw (form-field P s (a .0) (a .1), form-field P t (b .0) (b .1))
       (one-form P plain (textOf s) (textOf t) (rows-give P (textOf s) 192 (a .1)) (rows-give P (textOf t) 192 (b .1)))
 
 -- at the edition in force

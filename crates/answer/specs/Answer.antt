@@ -66,5 +66,9 @@ goodAnswer P id text =
     let form = pick (eqb (a .number) 0) (asciiForm P (normalForm text)) (0x2D ∷ []) in
     answerLine id (v .number) (v .place) (v .class) form
 
+-- the name that a line holds, as a text
+abbrev pub textOf : List ℕ → List ℕ
+textOf line = decoded (nameOf line) .codes
+
 unfoldable pub answerTo : Permits → List ℕ → List ℕ
-answerTo P line = pick (badLine line) badAnswer (goodAnswer P (idOf line) (decoded (nameOf line) .codes))
+answerTo P line = pick (badLine line) badAnswer (goodAnswer P (idOf line) (textOf line))

@@ -2,7 +2,7 @@
 -- form are the ASCII forms of the labels, since none of these holds a period; an encoding is of one label only, and no such ASCII label is one.
 -- Assumes nothing.
 use mathlib.Core.Path.{_≡_, refl, sym, ap, _∙_}
-use mathlib.Core.Bool.{Bool, true, false, _||_, and-true}
+use mathlib.Core.Bool.{Bool, true, false, and-true}
 use mathlib.Core.List.{List, [], _∷_, map}
 use Prim.Native.Nat.{ℕ}
 use native.Mathlib.Omega.{arith}
@@ -10,17 +10,18 @@ use lib.Dec.{eqb}
 use lib.ListN.{length, getD, take, drop, length-map}
 use borrow.Author.Tests.{eqb-true, not-false}
 use Rattle.lists.specs.Tests.{pick, within, allOf, anyOf, same}
-use Rattle.lists.proofs.Laws.{both, neither, or-left, refuted, clash, all-append, all-weaker, all-none, all-but}
+use Rattle.lists.proofs.Laws.{both, neither, or-left, or-right, refuted, clash, all-append, all-weaker, all-none, all-but}
 use Rattle.characters.specs.Characters.{alnum, hyphen, asciiSet}
 use Rattle.punycode.specs.Punycode.{ace, ldh, encodable}
 use Rattle.punycode.specs.Calls.{coderNumber}
 use Rattle.punycode.proofs.Theorems.{ace-injective, ace-ldh}
 use Rattle.punycode.proofs.Unique.{number-zero}
 use Rattle.rules.specs.Labels.{period, labels, join}
-use Rattle.rules.specs.Permits.{Permits, jaChar, labelChar, seemsEncoded}
+use Rattle.rules.specs.Permits.{Permits, jaChar, labelChar}
 use Rattle.rules.specs.Rules.{isJapanese}
+use Rattle.rules.specs.Pretends.{acePrefix, seemsEncoded}
 use Rattle.rules.proofs.Cuts.{some-label, join-labels, labels-join}
-use Rattle.ascii.specs.Ascii.{asciiLabel, asciiForm, OneForm, uncoded}
+use Rattle.ascii.specs.Ascii.{asciiLabel, asciiForm, inForm, OneForm, uncoded}
 use Rattle.ascii.proofs.Coded.{set-is}
 
 -- what is asked of labels: each holds only what it may hold, the coder takes it where it is Japanese, and it does not seem encoded
@@ -52,9 +53,8 @@ module _ (P : Permits) where
 
   -- an ASCII label that does not seem encoded is no encoding
   no-encoding : {A : Type 0} (l k : List ℕ) → isJapanese P k ≡ false → seemsEncoded P k ≡ false → ace l ≡ k → A
-  unfolding seemsEncoded isJapanese ace same
-  no-encoding l k p s e =
-      clash (ap (λ (x : List ℕ). same (take 4 x) (0x78 ∷ 0x6E ∷ 0x2D ∷ 0x2D ∷ [])) (sym e)) (sym (and-true _) ∙ (rw p at s))
+  unfolding seemsEncoded ace same
+  no-encoding l k p s e = clash (ap (λ (x : List ℕ). same (take 4 x) acePrefix) (sym e)) (sym (and-true _) ∙ (rw p at s))
 
   one-label : (l k : List ℕ) → (uncoded P l ≡ false) × (seemsEncoded P l ≡ false) → (uncoded P k ≡ false) × (seemsEncoded P k ≡ false)
       → asciiLabel P l ≡ asciiLabel P k → l ≡ k
@@ -77,23 +77,26 @@ module _ (P : Permits) where
 
   -- ---- all labels
 
-  of-each : {l : List ℕ} {ls : List (List ℕ)} → Unmistaken P (l ∷ ls) → ((uncoded P l ≡ false) × (seemsEncoded P l ≡ false)) × Unmistaken P ls
-  unfolding allOf anyOf
-  of-each {l} U =
-      let c = neither (uncoded P l) _ (U .coded) in
-      let p = neither (seemsEncoded P l) _ (U .plain) in
-      ((c .0, p .0), record { fit = both (allOf (labelChar P) l) _ (U .fit) .1; coded = c .1; plain = p .1 })
+  abbrev Apart : List (List ℕ) → Type 0
+  Apart ls = (anyOf (uncoded P) ls ≡ false) × (anyOf (seemsEncoded P) ls ≡ false)
 
-  one-by-one : (ls ks : List (List ℕ)) → Unmistaken P ls → Unmistaken P ks → map (asciiLabel P) ls ≡ map (asciiLabel P) ks → ls ≡ ks
-  one-by-one [] [] U W e = refl
-  one-by-one [] (k ∷ ks) U W e = absurd (omega (arith, ap length e))
-  one-by-one (l ∷ ls) [] U W e = absurd (omega (arith, ap length e))
-  one-by-one (l ∷ ls) (k ∷ ks) U W e =
-      let a = of-each U in
-      let b = of-each W in
+  of-each : (l : List ℕ) (ls : List (List ℕ)) → Apart (l ∷ ls) → ((uncoded P l ≡ false) × (seemsEncoded P l ≡ false)) × Apart ls
+  unfolding anyOf
+  of-each l ls a =
+      let c = neither (uncoded P l) _ (a .0) in
+      let p = neither (seemsEncoded P l) _ (a .1) in
+      ((c .0, p .0), (c .1, p .1))
+
+  one-by-one : (ls ks : List (List ℕ)) → Apart ls → Apart ks → map (asciiLabel P) ls ≡ map (asciiLabel P) ks → ls ≡ ks
+  one-by-one [] [] a b e = refl
+  one-by-one [] (k ∷ ks) a b e = absurd (omega (arith, ap length e))
+  one-by-one (l ∷ ls) [] a b e = absurd (omega (arith, ap length e))
+  one-by-one (l ∷ ls) (k ∷ ks) a b e =
+      let c = of-each l ls a in
+      let d = of-each k ks b in
       rw (
-        one-label l k (a .0) (b .0) (ap (λ (xs : List (List ℕ)). getD xs 0 []) e),
-        one-by-one ls ks (a .1) (b .1) (ap (λ (xs : List (List ℕ)). drop 1 xs) e),
+        one-label l k (c .0) (d .0) (ap (λ (xs : List (List ℕ)). getD xs 0 []) e),
+        one-by-one ls ks (c .1) (d .1) (ap (λ (xs : List (List ℕ)). drop 1 xs) e),
       )
 
   all-ascii : (ls : List (List ℕ)) → allOf (allOf (labelChar P)) ls ≡ true → anyOf (uncoded P) ls ≡ false → allOf (allOf asciiSet) (map (asciiLabel P) ls) ≡ true
@@ -106,16 +109,15 @@ module _ (P : Permits) where
 
   -- ---- the form
 
-  module _ (form : List ℕ) (U : Unmistaken P (labels form)) where
+  module _ (form : List ℕ) (fit : allOf (allOf (labelChar P)) (labels form) ≡ true) (coded : anyOf (uncoded P) (labels form) ≡ false) where
     each-ascii : allOf (allOf asciiSet) (map (asciiLabel P) (labels form)) ≡ true
-    each-ascii = all-ascii (labels form) (U .fit) (U .coded)
+    each-ascii = all-ascii (labels form) fit coded
 
-    -- it holds characters of the ASCII set and periods only
-    pub form-ascii : allOf (λ (c : ℕ). asciiSet c || period c) (asciiForm P form) ≡ true
-    unfolding asciiForm period asciiSet alnum hyphen within
+    pub form-ascii : allOf inForm (asciiForm P form) ≡ true
+    unfolding asciiForm inForm period
     form-ascii =
-        join-all (λ (c : ℕ). asciiSet c || period c) refl (map (asciiLabel P) (labels form))
-        (all-weaker (allOf asciiSet) _ (all-weaker asciiSet _ (λ c. or-left (asciiSet c) (period c))) (map (asciiLabel P) (labels form)) each-ascii)
+        join-all inForm (or-right (asciiSet 0x2E) (period 0x2E) refl) (map (asciiLabel P) (labels form))
+        (all-weaker (allOf asciiSet) (allOf inForm) (all-weaker asciiSet inForm (λ c. or-left (asciiSet c) (period c))) (map (asciiLabel P) (labels form)) each-ascii)
 
     -- its labels are the ASCII forms of the labels
     pub form-labels : labels (asciiForm P form) ≡ map (asciiLabel P) (labels form)
@@ -129,5 +131,5 @@ module _ (P : Permits) where
     where
       apart : asciiForm P s ≡ asciiForm P t → s ≡ t
       apart e =
-          let each = one-by-one (labels s) (labels t) U W (sym (form-labels s U) ∙ ap labels e ∙ form-labels t W) in
-          sym (join-labels s) ∙ ap join each ∙ join-labels t
+          let forms = sym (form-labels s (U .fit) (U .coded)) ∙ ap labels e ∙ form-labels t (W .fit) (W .coded) in
+          sym (join-labels s) ∙ ap join (one-by-one (labels s) (labels t) (U .coded, U .plain) (W .coded, W .plain) forms) ∙ join-labels t

@@ -8,9 +8,10 @@ use Prim.Native.Nat.{ℕ}
 use lib.Dec.{eqb, leb}
 use lib.ListN.{length}
 use Rattle.lists.specs.Tests.{pick, anyOf}
+use Rattle.characters.specs.Characters.{asciiSet}
 use Rattle.punycode.specs.Punycode.{ace}
 use Rattle.punycode.specs.Calls.{coderNumber}
-use Rattle.rules.specs.Labels.{labels, join}
+use Rattle.rules.specs.Labels.{period, labels, join}
 use Rattle.rules.specs.Permits.{Permits}
 use Rattle.rules.specs.Rules.{isJapanese}
 use Rattle.ascii.specs.Labels.{high}
@@ -21,6 +22,10 @@ asciiLabel P l = pick (isJapanese P l) (ace l) l
 
 unfoldable pub asciiForm : Permits → List ℕ → List ℕ
 asciiForm P form = join (map (asciiLabel P) (labels form))
+
+-- what it holds: characters of the ASCII set and periods (proofs/OneForm)
+unfoldable pub inForm : ℕ → Bool
+inForm c = asciiSet c || period c
 
 -- the ASCII forms of two normal forms are equal exactly where these are: document 02, K4
 abbrev pub OneForm : Permits → List ℕ → List ℕ → Type 0

@@ -6,13 +6,13 @@ use mathlib.Core.List.{List, [], _∷_, _++_}
 use Prim.Native.Nat.{ℕ}
 use native.Mathlib.Omega.{arith}
 use lib.Dec.{eqb, ltb}
-use lib.ListN.{length}
+use lib.ListN.{length, take}
 use borrow.Author.Tests.{eqb-true, eqb-false, eq-eqb, ne-eqb, ltb-true, not-true}
 use Rattle.lists.specs.Tests.{pick, allOf}
 use Rattle.lists.specs.Front.{written}
 use Rattle.lists.specs.Rows.{Row, row, accepted, says, first, without, Clear, given, Gives}
 use Rattle.lists.specs.declared.Answer.{Answer}
-use Rattle.lists.proofs.Fronts.{untouched}
+use Rattle.lists.proofs.Fronts.{untouched, front}
 use Rattle.lists.proofs.Laws.{both, clash}
 
 -- a row that does not apply is passed over; the first that applies is the answer
@@ -217,6 +217,10 @@ module _ {R : Type 0} (make : Answer → ℕ → R) (rows : List Row) (xs before
   module _ {after : List ℕ} {r : R} (G : Gives make rows xs before after r) where
     pub gave-all : first rows .number ≡ 0 → (after ≡ written xs before) × (r ≡ make (first rows) (length xs))
     gave-all z = let all = given-all (first rows) xs z in (G .buffer ∙ rw all, G .result ∙ rw all)
+
+    -- what stands at the buffer's start then, as long as the struct says
+    pub gave-front : (size : R → ℕ) → ((a : Answer) (n : ℕ) → size (make a n) ≡ n) → first rows .number ≡ 0 → take (size r) after ≡ xs
+    gave-front size says-size z = let g = gave-all z in rw (g .1, says-size (first rows) (length xs), g .0) (front xs before)
 
     pub gave-none : (first rows .number ≡ 0 → ⊥) → (after ≡ before) × (r ≡ make (first rows) 0)
     gave-none h = let none = given-none (first rows) xs h in (G .buffer ∙ rw none (untouched before), G .result ∙ rw none)

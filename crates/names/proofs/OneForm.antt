@@ -9,18 +9,18 @@ use mathlib.Core.Logic.{_↔_}
 use Prim.Native.Nat.{ℕ}
 use lib.ListN.{length, take}
 use Rattle.lists.specs.Tests.{within, allOf, anyOf, elem, same}
-use Rattle.lists.specs.Rows.{first}
+use Rattle.lists.specs.Rows.{first, Clear}
 use Rattle.lists.specs.declared.Answer.{Answer}
 use Rattle.lists.proofs.Laws.{clash, all-not, same-refl}
-use Rattle.lists.proofs.Fronts.{front}
-use Rattle.lists.proofs.Tables.{clear, gave-all}
+use Rattle.lists.proofs.Tables.{clear, gave-front}
 use Rattle.characters.specs.KanjiBits.{kanjiBits}
 use Rattle.characters.specs.Characters.{alnum, hyphen, asciiSet, hiragana, katakana, signs, japaneseBy, kanjiWith, japaneseWith}
 use Rattle.characters.proofs.Bounds.{with-bounds}
 use Rattle.normal.specs.Normal.{normalForm}
 use Rattle.rules.specs.Labels.{labels}
-use Rattle.rules.specs.Permits.{Permits, InStretch, ShortMiddles, PlainMiddles, Laws, jaChar, labelChar, isEmpty, seemsEncoded}
+use Rattle.rules.specs.Permits.{Permits, InStretch, ShortMiddles, Laws, jaChar, labelChar, isEmpty}
 use Rattle.rules.specs.Rules.{ofName, jp, textRows, verdict, rules, rulesBut}
+use Rattle.rules.specs.Pretends.{seemsEncoded, PlainMiddles}
 use Rattle.rules.specs.Editions.{today, todayWith}
 use Rattle.rules.specs.declared.Class.{Class}
 use Rattle.rules.specs.declared.Class.the-variants.{General}
@@ -30,11 +30,11 @@ use Rattle.rules.proofs.Cuts.{labels-fit}
 use Rattle.rules.proofs.Derived.{of-middle}
 use Rattle.rules.proofs.Pretends.{honest-plain}
 use Rattle.rules.proofs.Today.{today-laws, today-plain, lending, lent-plain}
-use Rattle.ascii.specs.Ascii.{asciiForm, OneForm}
+use Rattle.ascii.specs.Ascii.{asciiForm, inForm, OneForm}
 use Rattle.ascii.specs.Examples.{kana, encoded}
-use Rattle.ascii.proofs.OneForm.{Unmistaken}
+use Rattle.ascii.proofs.OneForm.{Unmistaken, form-ascii}
 use Rattle.ascii.proofs.OneForm as Ascii
-use Rattle.names.specs.Calls.{asciiRows, FormGiven, AsciiForms}
+use Rattle.names.specs.Calls.{asciiRows, AsciiForms, Coded, FormGiven}
 use Rattle.names.specs.Shared.{Share, general, shared, twins, shared-middles}
 use Rattle.names.specs.declared.AsciiForm.{AsciiForm}
 use Rattle.names.proofs.Answering.{ascii-passed}
@@ -45,27 +45,37 @@ jp-plain : (P : Permits) → not (seemsEncoded P jp) ≡ true
 unfolding seemsEncoded same jp
 jp-plain P = refl
 
-module _ (P : Permits) (plain : PlainMiddles P) where
-  -- ---- over the rules
+-- ---- over the rules
 
-  pub unmistaken : {text : List ℕ} → FormGiven P text → Unmistaken P (labels (normalForm text))
+module _ (P : Permits) {text : List ℕ} (G : FormGiven P text) where
+  clears : Clear (textRows P text)
   unfolding rules verdict
-  unmistaken {text} G =
-      let c = text-cleared P text (G .accepted) in
-      record {
-        fit = labels-fit P (normalForm text) (clear-text P text c .0 .fit);
-        coded = G .coded;
-        plain =
-            all-not (seemsEncoded P) (labels (normalForm text))
-            (each-label P (λ l. not (seemsEncoded P l)) (λ l a k h. ap not (honest-plain P ofName l h))
-            (λ l a m. of-middle P (λ l. not (seemsEncoded P l)) l plain m) (jp-plain P) text c .0);
-      }
+  clears = text-cleared P text (G .accepted)
 
+  fit : allOf (allOf (labelChar P)) (labels (normalForm text)) ≡ true
+  fit = labels-fit P (normalForm text) (clear-text P text clears .0 .fit)
+
+  -- what the form of an accepted name holds
+  pub given-ascii : allOf inForm (asciiForm P (normalForm text)) ≡ true
+  given-ascii = form-ascii P (normalForm text) fit (G .coded)
+
+  unmistaken : PlainMiddles P → Unmistaken P (labels (normalForm text))
+  unmistaken plain = record {
+    fit = fit;
+    coded = G .coded;
+    plain =
+        all-not (seemsEncoded P) (labels (normalForm text))
+        (each-label P (λ l. not (seemsEncoded P l)) (λ l a k h. ap not (honest-plain P ofName l h))
+        (λ l a m. of-middle P (λ l. not (seemsEncoded P l)) l plain m) (jp-plain P) text clears .0);
+  }
+
+module _ (P : Permits) (plain : PlainMiddles P) where
   pub one-form : (s t : List ℕ) → FormGiven P s → FormGiven P t → OneForm P (normalForm s) (normalForm t)
-  one-form s t G H = Ascii.one-form P (normalForm s) (normalForm t) (unmistaken G) (unmistaken H)
+  one-form s t G H = Ascii.one-form P (normalForm s) (normalForm t) (unmistaken P G plain) (unmistaken P H plain)
 
   -- the form of an accepted text is always given
-  pub one-form-accepted : InStretch P → ShortMiddles P → (s t : List ℕ) → rules P s .number ≡ 0 → rules P t .number ≡ 0 → OneForm P (normalForm s) (normalForm t)
+  pub one-form-accepted : InStretch P → ShortMiddles P → (s t : List ℕ) → rules P s .number ≡ 0 → rules P t .number ≡ 0
+      → OneForm P (normalForm s) (normalForm t)
   one-form-accepted stretch short s t p q =
       one-form s t (record { accepted = p; coded = no-14 P stretch short s p }) (record { accepted = q; coded = no-14 P stretch short t q })
 
@@ -87,9 +97,7 @@ module _ (P : Permits) {text before after : List ℕ} {r : AsciiForm} (a : Ascii
   gave = rows-give P text (length before) accepts
 
   octets : take (r .length) after ≡ asciiForm P (normalForm text)
-  octets =
-      let g = gave-all _ _ _ before (a .gives) accepts in
-      rw (ap (λ (x : AsciiForm). x .length) (g .1), g .0) (front (asciiForm P (normalForm text)) before)
+  octets = gave-front _ _ _ before (a .gives) (λ (x : AsciiForm). x .length) (λ a n. refl) accepts
 
 -- what two that answered 0 wrote, each in its own buffer, is equal exactly where the normal forms are
 abbrev pub OneWritten : Permits → Type 0
@@ -107,24 +115,27 @@ one-form-today = one-form-accepted today today-plain (today-laws .stretch) (toda
 pub one-written-today : OneWritten today
 one-written-today = one-written today today-plain
 
--- and of the call that is lent a table of kanji, whatever it holds
+-- and of two calls that are lent one table of kanji, whatever it holds
 pub one-written-lent : (table : List ℕ) → OneWritten (todayWith table)
 one-written-lent table = one-written (todayWith table) (lent-plain table)
 
 -- ---- what it needs
 
--- where two names share a form it does not hold
-breaks : {said : Permits → List ℕ → Verdict} {P : Permits} {k : Class} {s t : List ℕ} → Share said P k s t
-    → ((a b : List ℕ) → said P a .number ≡ 0 → said P b .number ≡ 0 → OneForm P (normalForm a) (normalForm b)) → ⊥
+-- that ASCII forms tell apart the texts which these rules accept, and whose forms are given
+abbrev pub TellsApart : (Permits → List ℕ → Verdict) → Permits → Type 0
+TellsApart said P = (s t : List ℕ) → said P s .number ≡ 0 → said P t .number ≡ 0 → Coded P s → Coded P t → OneForm P (normalForm s) (normalForm t)
+
+-- it does not hold where two names share a form
+breaks : {said : Permits → List ℕ → Verdict} {P : Permits} {k : Class} {s t : List ℕ} → Share said P k s t → TellsApart said P → ⊥
 breaks {s = s} {t = t} S all =
-    let e = all s t (ap (λ (v : Verdict). v .number) (S .one)) (ap (λ (v : Verdict). v .number) (S .other)) .0 (S .alike) in
+    let e = all s t (ap (λ (v : Verdict). v .number) (S .one)) (ap (λ (v : Verdict). v .number) (S .other)) (S .one-coded) (S .other-coded) .0 (S .alike) in
     clash (same-refl (normalForm t)) (ap (λ (x : List ℕ). same x (normalForm t)) (sym e) ∙ S .apart)
 
 pub shared-today : Share (rulesBut 17) today General (general encoded) (general kana)
 shared-today = lending (λ (P : Permits). Share (rulesBut 17) P General (general encoded) (general kana)) refl shared
 
--- rule 17
-pub needs-17 : ((s t : List ℕ) → rulesBut 17 today s .number ≡ 0 → rulesBut 17 today t .number ≡ 0 → OneForm today (normalForm s) (normalForm t)) → ⊥
+-- so it needs rule 17
+pub needs-17 : TellsApart (rulesBut 17) today → ⊥
 needs-17 = breaks shared-today
 
 -- and, of an edition that keeps all other laws, that no prefecture label seems encoded
@@ -138,5 +149,5 @@ twins-laws = record {
   middle-three = λ l e. refl;
 }
 
-pub needs-plain : ((s t : List ℕ) → rules twins s .number ≡ 0 → rules twins t .number ≡ 0 → OneForm twins (normalForm s) (normalForm t)) → ⊥
+pub needs-plain : TellsApart rules twins → ⊥
 needs-plain = breaks shared-middles

@@ -72,11 +72,14 @@ asciiFormed v n = record { number = v .number; place = v .place; class = v .clas
 abbrev pub asciiSaid : AsciiForm → Verdict
 asciiSaid r = record { number = r .number; place = r .place; class = r .class }
 
--- a text is accepted, and its ASCII form is given: 14 does not apply either
-pub record FormGiven (P : Permits) (text : List ℕ) : Type 0 where
-  pub accepted : rules P text .number ≡ 0
-  pub coded : anyOf (uncoded P) (labels (normalForm text)) ≡ false
-
 abbrev pub AsciiForms : Permits → List ℕ → List ℕ → List ℕ → AsciiForm → Type 0
 AsciiForms P text before after r =
     Answers asciiFormed (asciiRows P text (length before)) text (asciiForm P (normalForm text)) before after r
+
+-- the ASCII form of an accepted text is given (document 02, K4): 14 does not apply either
+abbrev pub Coded : Permits → List ℕ → Type 0
+Coded P text = anyOf (uncoded P) (labels (normalForm text)) ≡ false
+
+pub record FormGiven (P : Permits) (text : List ℕ) : Type 0 where
+  pub accepted : rules P text .number ≡ 0
+  pub coded : Coded P text

@@ -1,9 +1,9 @@
--- Two names that share an ASCII form, by computation: document 02, K3 and K4. The first pair is accepted where row 17 is
--- left out, the second by an edition whose prefecture labels seem encoded. With row 17, and no such prefecture label,
--- there is no such pair (proofs/OneForm).
+-- Pairs of names that share an ASCII form, by computation: document 02, K3 and K4. The first is accepted where row 17
+-- is left out, the second by an edition one of whose prefecture labels seems encoded. With row 17, and no such
+-- prefecture label, there is no such pair (proofs/OneForm).
 use mathlib.Core.Path.{_≡_, refl}
 use mathlib.Core.Bool.{true, false}
-use mathlib.Core.List.{List, [], _∷_, _++_}
+use mathlib.Core.List.{List, [], _∷_}
 use Prim.Native.Nat.{ℕ}
 use Rattle.lists.specs.Tests.{within, allOf, anyOf, indexOf, elem, same}
 use Rattle.lists.specs.Rows.{first, without}
@@ -23,22 +23,25 @@ use Rattle.rules.specs.Editions.{todayWith}
 use Rattle.rules.specs.declared.Class.{Class}
 use Rattle.rules.specs.declared.Class.the-variants.{General, Prefecture}
 use Rattle.rules.specs.declared.Verdict.{Verdict}
-use Rattle.ascii.specs.Ascii.{asciiLabel, asciiForm}
-use Rattle.ascii.specs.Examples.{kana, encoded, kana-form}
+use Rattle.ascii.specs.Ascii.{asciiLabel, asciiForm, uncoded}
+use Rattle.ascii.specs.Examples.{kana, encoded, kana-number, kana-form}
+use Rattle.names.specs.Calls.{Coded}
 
--- two texts that these rules accept as names of class k, of two normal forms and one ASCII form
+-- two texts that these rules accept as names of class k, whose ASCII forms are given: of two normal forms, and one form
 pub record Share (said : Permits → List ℕ → Verdict) (P : Permits) (k : Class) (s t : List ℕ) : Type 0 where
   pub one : said P s ≡ accepted k
   pub other : said P t ≡ accepted k
+  pub one-coded : Coded P s
+  pub other-coded : Coded P t
   pub apart : same (normalForm s) (normalForm t) ≡ false
   pub alike : asciiForm P (normalForm s) ≡ asciiForm P (normalForm t)
 
--- a label and .jp; abc, a label and .jp
+-- a label and jp; abc, a label and jp
 abbrev pub general : List ℕ → List ℕ
-general l = l ++ 0x2E ∷ 0x6A ∷ 0x70 ∷ []
+general l = join (l ∷ jp ∷ [])
 
 abbrev pub prefecture : List ℕ → List ℕ
-prefecture m = 0x61 ∷ 0x62 ∷ 0x63 ∷ 0x2E ∷ general m
+prefecture m = join ((0x61 ∷ 0x62 ∷ 0x63 ∷ []) ∷ m ∷ jp ∷ [])
 
 -- xn--l8j.jp and 3042 .jp, without row 17; computed by the bits of the kanji, of the edition in force it is
 -- `shared-today` (proofs/OneForm)
@@ -48,8 +51,15 @@ unfolding within allOf anyOf indexOf elem same first without alnum hyphen asciiS
     composed replacedFrom compose normalPlaced normalForm places period intoFirst labels join jaChar labelChar middle
     isEmpty unfit middleDot ordinary isJapanese beginsWithHyphen endsWithHyphen hyphenEdge short long hyphenPair
     pretends bareDot labelRows jp nameRows frontRows textRows classOf verdict rulesBut todayWith prefectures asciiLabel
-    asciiForm
-shared = record { one = refl; other = refl; apart = refl; alike = rw (kana-form (todayWith kanjiBits) refl) }
+    asciiForm uncoded
+shared = record {
+  one = refl;
+  other = refl;
+  one-coded = refl;
+  other-coded = rw kana-number;
+  apart = refl;
+  alike = rw (kana-form (todayWith kanjiBits) refl);
+}
 
 -- an edition with these two as prefecture labels, and abc.xn--l8j.jp and abc. 3042 .jp, with row 17
 unfoldable pub twins : Permits
@@ -60,5 +70,12 @@ unfolding within allOf anyOf indexOf elem same first alnum hyphen asciiSet hirag
     japaneseWith ranges rangeIn halfKana isHalf replaceIn replace voiced repeats halfVoiced eitherKana composed
     replacedFrom compose normalPlaced normalForm places period intoFirst labels join jaChar labelChar middle isEmpty
     unfit middleDot ordinary isJapanese beginsWithHyphen endsWithHyphen hyphenEdge short long hyphenPair pretends
-    bareDot labelRows jp nameRows frontRows textRows classOf verdict rules twins asciiLabel asciiForm
-shared-middles = record { one = refl; other = refl; apart = refl; alike = rw (kana-form twins refl) }
+    bareDot labelRows jp nameRows frontRows textRows classOf verdict rules twins asciiLabel asciiForm uncoded
+shared-middles = record {
+  one = refl;
+  other = refl;
+  one-coded = refl;
+  other-coded = rw kana-number;
+  apart = refl;
+  alike = rw (kana-form twins refl);
+}

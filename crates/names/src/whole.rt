@@ -109,7 +109,7 @@ fn any_name(kanji: &[u32], text: &[u32], out: &mut [u8]) -> AsciiForm
     }
 }
 
-// The usual name goes its own way. Two calls with 0 wrote equal octets exactly where the normal forms are equal (proofs/OneForm).
+// The usual name goes its own way.
 pub fn to_ascii_with(kanji: &[u32], text: &[u32], out: &mut [u8]) -> AsciiForm
     ensures { λ r. ⌜ AsciiForms (todayWith (now (kanji .entry))) (now (text .entry)) (now (out .entry)) (now (out .exit)) r ⌝ }
 {

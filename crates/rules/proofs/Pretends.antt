@@ -10,14 +10,14 @@ use native.Mathlib.Omega.{arith}
 use lib.ListN.{getD, take}
 use lib.Seq.{getD-take}
 use borrow.Author.Tests.{not-true}
-use Rattle.lists.specs.Tests.{anyOf, same}
+use Rattle.lists.specs.Tests.{same}
 use Rattle.lists.proofs.Laws.{both, or-right, refuted, clash, same-is}
 use Rattle.characters.specs.Characters.{hyphen}
 use Rattle.rules.specs.Labels.{labels}
-use Rattle.rules.specs.Permits.{Permits, jaChar, Laws, middle, seemsEncoded}
+use Rattle.rules.specs.Permits.{Permits, Laws, middle}
 use Rattle.rules.specs.Rules.{isJapanese, hyphenPair, Asks, ofName, pretends, Sound}
 use Rattle.rules.specs.Grammar as G
-use Rattle.rules.specs.Pretends.{PAIR, pair, PRETENDS, pretending, Admitted}
+use Rattle.rules.specs.Pretends.{PAIR, pair, PRETENDS, pretending, Admitted, acePrefix, seemsEncoded}
 use Rattle.rules.specs.declared.Class.{Class}
 use Rattle.rules.specs.declared.Class.the-variants.{General, Prefecture}
 use Rattle.rules.proofs.ByName.{Honest}
@@ -56,17 +56,15 @@ japanese-honest P l e = ap (λ (j : Bool). hyphenPair l && not j) e ∙ and-fals
 
 -- ---- what seems encoded has the pair, so it pretends, whatever the family of names asks
 
-encoded-pair : (l : List ℕ) → same (take 4 l) (0x78 ∷ 0x6E ∷ 0x2D ∷ 0x2D ∷ []) ≡ true → hyphenPair l ≡ true
+encoded-pair : (l : List ℕ) → same (take 4 l) acePrefix ≡ true → hyphenPair l ≡ true
 unfolding hyphenPair hyphen
-encoded-pair l e =
-    let begins = same-is (take 4 l) (0x78 ∷ 0x6E ∷ 0x2D ∷ 0x2D ∷ []) e in
-    rw (← getD-take 4 l 2 0 (omega arith), ← getD-take 4 l 3 0 (omega arith), begins)
+encoded-pair l e = rw (← getD-take 4 l 2 0 (omega arith), ← getD-take 4 l 3 0 (omega arith), same-is (take 4 l) acePrefix e)
 
 pub honest-plain : (P : Permits) (A : Asks) (l : List ℕ) → pretends P A l ≡ false → seemsEncoded P l ≡ false
-unfolding pretends seemsEncoded isJapanese
+unfolding pretends seemsEncoded
 honest-plain P A l h =
     refuted (seemsEncoded P l) (λ e.
-    let b = both _ (not (anyOf (jaChar P) l)) e in
+    let b = both (same (take 4 l) acePrefix) _ e in
     clash {b = pretends P A l} (rw (encoded-pair l (b .0)) (or-right (A .everyPair) _ (b .1))) h)
 
 module _ (P : Permits) (L : Laws P) where

@@ -15,8 +15,9 @@ use Rattle.characters.specs.KanjiBits.{kanjiBits}
 use Rattle.characters.proofs.Bounds.{with-bounds}
 use Rattle.characters.proofs.Lent as Lent
 use Rattle.characters.specs.Characters.{alnum, hyphen, asciiSet, hiragana, katakana, signs, japaneseBy, japanese}
-use Rattle.rules.specs.Permits.{Permits, InStretch, ShortMiddles, PlainMiddles, Laws, jaChar, labelChar, isEmpty, seemsEncoded}
+use Rattle.rules.specs.Permits.{Permits, InStretch, ShortMiddles, Laws, jaChar, labelChar, isEmpty}
 use Rattle.rules.specs.Prefectures.{prefectures}
+use Rattle.rules.specs.Pretends.{seemsEncoded, PlainMiddles}
 use Rattle.rules.specs.Editions.{today, todayWith}
 use Rattle.rules.specs.Hopeful.{settled, HopeLaws}
 

@@ -1,10 +1,10 @@
 -- What an edition of the rules permits: grammar, rules and theorems are stated over it, and an edition is one value.
-use mathlib.Core.Bool.{Bool, true, false, not, _&&_, _||_}
+use mathlib.Core.Bool.{Bool, true, false, not, _||_}
 use mathlib.Core.List.{List, [], _∷_}
 use mathlib.Core.Path.{_≡_}
 use Prim.Native.Nat.{ℕ}
 use lib.Dec.{leb}
-use lib.ListN.{length, take}
+use lib.ListN.{length}
 use Rattle.lists.specs.Tests.{within, allOf, anyOf, same}
 use Rattle.characters.specs.Characters.{asciiSet}
 
@@ -39,14 +39,6 @@ InStretch P = (c : ℕ) → jaChar P c ≡ true → within 0x3003 0x9FA0 c ≡ t
 -- each prefecture label has at most 15 characters
 abbrev pub ShortMiddles : Permits → Type 0
 ShortMiddles P = allOf (λ (l : List ℕ). leb (length l) 15) (P .middles) ≡ true
-
--- it seems encoded: an ASCII label that begins like an encoded one, with "xn--" (RFC 5890, 2.3.2.5)
-unfoldable pub seemsEncoded : Permits → List ℕ → Bool
-seemsEncoded P l = same (take 4 l) (0x78 ∷ 0x6E ∷ 0x2D ∷ 0x2D ∷ []) && not (anyOf (jaChar P) l)
-
--- no prefecture label does: asked where ASCII forms tell names apart (document 02, K4), and there alone
-abbrev pub PlainMiddles : Permits → Type 0
-PlainMiddles P = allOf (λ (l : List ℕ). not (seemsEncoded P l)) (P .middles) ≡ true
 
 -- what the theorems ask of an edition
 pub record Laws (P : Permits) : Type 0 where

@@ -11,19 +11,28 @@ use crate::normal::{labels, normal_form};
 use crate::random::Random;
 use crate::{host, points};
 
-/// Every text that one gets by typing, for one Japanese label of a text's normal
-/// form or for all of them, the encoding. None where no label is Japanese.
+/// Of more Japanese labels than this not every choice is tried.
+const FEW: usize = 4;
+
+/// The texts that one gets by typing encodings in place of Japanese labels of a
+/// text's normal form: for every choice of these labels where there are few, else
+/// for each of them and for all. None where no label is Japanese.
 pub fn stand_ins(text: &[u32]) -> Vec<Vec<u32>> {
     let labels = labels(&normal_form(text));
-    let encoded = |label: &Vec<u32>| points(&label_form(label).expect("a label that has a form"));
-    let whole: Vec<Vec<u32>> = labels.iter().map(encoded).collect();
-    let one = |at: usize| [&labels[..at], &whole[at..=at], &labels[at + 1..]].concat();
     let japanese: Vec<usize> = (0..labels.len()).filter(|at| is_japanese_label(&labels[*at])).collect();
-    let mut found: Vec<Vec<Vec<u32>>> = japanese.iter().map(|at| one(*at)).collect();
-    if japanese.len() > 1 {
-        found.push(whole);
-    }
-    found.iter().map(|labels| labels.join(&PERIOD)).collect()
+    let all = (1u64 << japanese.len()) - 1;
+    let choices: Vec<u64> = match japanese.len() <= FEW {
+        true => (1..=all).collect(),
+        false => (0..japanese.len()).map(|at| 1 << at).chain([all]).collect(),
+    };
+    let typed = |choice: &u64| {
+        let mut labels = labels.clone();
+        for (_, at) in japanese.iter().enumerate().filter(|(order, _)| choice >> order & 1 == 1) {
+            labels[*at] = points(&label_form(&labels[*at]).expect("a label that has a form"));
+        }
+        labels.join(&PERIOD)
+    };
+    choices.iter().map(typed).collect()
 }
 
 /// A name or a host, its normal form and what stands in for it.
