@@ -6,13 +6,14 @@ use mathlib.Core.Bool.{Bool, true, false, _||_}
 use mathlib.Core.List.{List, [], _∷_, _++_, append-assoc}
 use mathlib.Core.Logic.{_↔_}
 use Prim.Native.Nat.{ℕ, zero, suc, _+_, _/_, _%_}
+use native.Mathlib.Numerals.{add-one}
 use native.Mathlib.Omega.{arith}
 use lib.Dec.{leb, ltb}
 use lib.ListN.{length, take, drop}
-use lib.Seq.{take-append-seam}
-use borrow.Author.Tests.{le-leb, eqb-true}
+use lib.Seq.{take-append-seam, drop-append-add}
+use borrow.Author.Tests.{le-leb}
 use Rattle.lists.specs.Tests.{pick, within, allOf, anyOf, indexOf}
-use Rattle.lists.proofs.Laws.{both, either, refuted, clash, all-append, all-none}
+use Rattle.lists.proofs.Laws.{both, all-append, all-none, differs}
 use Rattle.lists.proofs.Scan.{first-past}
 use Rattle.characters.specs.Characters.{alnum, hyphen, asciiSet}
 use Rattle.normal.specs.Normal.{normalForm}
@@ -46,9 +47,7 @@ fieldOf (suc n) line = fieldOf n (drop (suc (indexOf ends line)) line)
 -- bytes of which a test holds that fails of both
 no-end : (f : ℕ → Bool) → f 0x09 ≡ false → f 0x0A ≡ false → (xs : List ℕ) → allOf f xs ≡ true → anyOf ends xs ≡ false
 unfolding ends tab lf
-no-end f p q =
-    all-none f ends (λ c h.
-    refuted (ends c) (λ e. either (tab c) (lf c) e (λ t. clash h (ap f (eqb-true c 0x09 t) ∙ p)) (λ l. clash h (ap f (eqb-true c 0x0A l) ∙ q))))
+no-end f p q = all-none f ends (λ c h. rw (differs f 0x09 p c h, differs f 0x0A q c h))
 
 module _ (xs : List ℕ) (none : anyOf ends xs ≡ false) (c : ℕ) (ys : List ℕ) (e : ends c ≡ true) where
   end-is : indexOf ends (xs ++ c ∷ ys) ≡ length xs
@@ -60,11 +59,7 @@ module _ (xs : List ℕ) (none : anyOf ends xs ≡ false) (c : ℕ) (ys : List �
 
   next : (n : ℕ) → fieldOf (suc n) (xs ++ c ∷ ys) ≡ fieldOf n ys
   unfolding fieldOf
-  next n = rw (end-is, past xs)
-    where
-      past : (xs : List ℕ) → drop (suc (length xs)) (xs ++ c ∷ ys) ≡ ys
-      past [] = refl
-      past (x ∷ xs) = past xs
+  next n = rw (end-is, ← add-one (length xs), drop-append-add xs (c ∷ ys) 1)
 
 -- ---- no field holds an end
 

@@ -2,18 +2,18 @@
 -- and its answer is that to the name's code points.
 -- Assumes nothing.
 use mathlib.Core.Path.{_≡_, refl, sym, ap, _∙_}
-use mathlib.Core.Bool.{Bool, true, false}
+use mathlib.Core.Bool.{true, false}
 use mathlib.Core.List.{List, _∷_, _++_, append-assoc}
 use Prim.Native.Nat.{ℕ, suc, _+_, _≤_, _<_}
 use native.Mathlib.Numerals.{add-one}
 use native.Mathlib.Omega.{arith}
-use lib.Dec.{eqb, leb}
+use lib.Dec.{leb}
 use lib.ListN.{length, take, drop, getD, length-append, length-drop, take-append-drop}
 use lib.Seq.{split-at, drop-cons, take-at, length-take-le, getD-take, getD-append-add}
-use borrow.Author.Tests.{ne-eqb, eqb-true}
+use borrow.Author.Tests.{eqb-true}
 use Rattle.lists.specs.Tests.{within, allOf, anyOf, indexOf}
 use Rattle.lists.specs.Front.{Puts}
-use Rattle.lists.proofs.Laws.{both, in-range, clash, any-append, all-none}
+use Rattle.lists.proofs.Laws.{both, in-range, any-append, absent}
 use Rattle.lists.proofs.Scan.{cut-first, first-past}
 use Rattle.rules.specs.Permits.{Permits}
 use Rattle.unicode.specs.Utf8.{Text, decoded}
@@ -25,10 +25,6 @@ use Rattle.lines.proofs.OneTab.{Fields, fields-are}
 use Rattle.answer.specs.Usual.{noControls, Answered}
 use Rattle.answer.specs.Answer.{goodAnswer, answerTo}
 use Rattle.answer.proofs.Answering.{two-parts, fields-good}
-
--- where f holds of all and not of b, b is not there
-absent : (f : ℕ → Bool) (b : ℕ) → f b ≡ false → (l : List ℕ) → allOf f l ≡ true → anyOf (λ (c : ℕ). eqb c b) l ≡ false
-absent f b n l e = all-none f (λ (c : ℕ). eqb c b) (λ c h. ne-eqb c b (λ z. clash h (ap f z ∙ n))) l e
 
 abbrev lineOf : List ℕ → List ℕ → List ℕ
 lineOf id name = id ++ 0x09 ∷ name

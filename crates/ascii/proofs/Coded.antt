@@ -45,7 +45,7 @@ module _ (P : Permits) (stretch : InStretch P) where
         or-right (ldh c) _ (rw (inside 0x80 0x10FFFF c (omega arith) (omega arith), outside 0xD800 0xDFFF c (λ x y. omega arith))))
         (λ p. or-left (ldh c) _ (set-is c ∙ p))
 
-  japanese-high : (c : ℕ) → jaChar P c ≡ true → leb 0x80 c ≡ true
+  pub japanese-high : (c : ℕ) → jaChar P c ≡ true → leb 0x80 c ≡ true
   japanese-high c p = let h = in-range 0x3003 0x9FA0 c (stretch c p) in le-leb 0x80 c (omega arith)
 
   -- ---- a label

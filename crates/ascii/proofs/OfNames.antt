@@ -13,7 +13,7 @@ use Rattle.lists.specs.Tests.{pick, allOf, anyOf}
 use Rattle.lists.specs.Front.{written}
 use Rattle.lists.specs.Rows.{first}
 use Rattle.lists.specs.declared.Answer.{Answer}
-use Rattle.lists.proofs.Laws.{both, in-range, all-not, all-but, any-weaker}
+use Rattle.lists.proofs.Laws.{both, all-not, all-but, any-weaker}
 use Rattle.lists.proofs.Tables.{clear, gave-all, gave-none}
 use Rattle.punycode.specs.Punycode.{ace}
 use Rattle.punycode.specs.Calls.{coderNumber}
@@ -24,6 +24,7 @@ use Rattle.rules.proofs.Sound.{ascii-range}
 use Rattle.ascii.specs.Labels.{high, labelForm, formRows, labelFormed, Forms}
 use Rattle.ascii.specs.Ascii.{asciiLabel, uncoded, writable}
 use Rattle.ascii.specs.declared.LabelForm.{LabelForm}
+use Rattle.ascii.proofs.Coded.{japanese-high}
 use Rattle.ascii.proofs.Forming.{rows-say, low-form}
 
 -- ---- what is high
@@ -37,17 +38,13 @@ ascii-low P l a p = all-not high l (all-but (labelChar P) (jaChar P) (λ (c : �
     low c e p = let h = ascii-range c (rw p at e) in ap not (lt-leb 0x80 c (omega arith))
 
 module _ (P : Permits) (stretch : InStretch P) (l : List ℕ) where
-  japanese-high : (c : ℕ) → jaChar P c ≡ true → high c ≡ true
-  unfolding high
-  japanese-high c j = let r = in-range 0x3003 0x9FA0 c (stretch c j) in le-leb 0x80 c (omega arith)
-
   -- of a label with nothing high where it is not Japanese
   high-is : (isJapanese P l ≡ false → anyOf high l ≡ false) → anyOf high l ≡ isJapanese P l
-  unfolding isJapanese
+  unfolding isJapanese high
   high-is k = go (anyOf (jaChar P) l) refl
     where
       go : (j : Bool) → anyOf (jaChar P) l ≡ j → anyOf high l ≡ j
-      go true p = any-weaker (jaChar P) high japanese-high l p
+      go true p = any-weaker (jaChar P) high (japanese-high P stretch) l p
       go false p = k p
 
   pub high-fit : allOf (labelChar P) l ≡ true → anyOf high l ≡ isJapanese P l

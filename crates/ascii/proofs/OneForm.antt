@@ -10,7 +10,7 @@ use lib.Dec.{eqb}
 use lib.ListN.{length, getD, take, drop, length-map}
 use borrow.Author.Tests.{eqb-true, not-false}
 use Rattle.lists.specs.Tests.{pick, within, allOf, anyOf, same}
-use Rattle.lists.proofs.Laws.{both, neither, or-left, or-right, refuted, clash, all-append, all-weaker, all-none, all-but}
+use Rattle.lists.proofs.Laws.{both, neither, or-left, or-right, clash, all-append, all-weaker, all-none, absent, all-but}
 use Rattle.characters.specs.Characters.{alnum, hyphen, asciiSet}
 use Rattle.punycode.specs.Punycode.{ace, ldh, encodable}
 use Rattle.punycode.specs.Calls.{coderNumber}
@@ -30,9 +30,9 @@ pub record Unmistaken (P : Permits) (ls : List (List ℕ)) : Type 0 where
   pub coded : anyOf (uncoded P) ls ≡ false
   pub plain : anyOf (seemsEncoded P) ls ≡ false
 
-ascii-no-period : (c : ℕ) → asciiSet c ≡ true → period c ≡ false
+no-period : (l : List ℕ) → allOf asciiSet l ≡ true → anyOf period l ≡ false
 unfolding asciiSet alnum hyphen within period
-ascii-no-period c h = refuted (period c) (λ e. clash h (ap asciiSet (eqb-true c 0x2E e)))
+no-period = absent asciiSet 0x2E refl
 
 -- what holds of a period and of the characters of labels holds of the labels joined
 module _ (f : ℕ → Bool) (of-period : f 0x2E ≡ true) where
@@ -124,7 +124,7 @@ module _ (P : Permits) where
     unfolding asciiForm
     form-labels =
         labels-join (map (asciiLabel P) (labels form)) (rw (length-map (labels form) (asciiLabel P)) (some-label form))
-        (all-none (allOf asciiSet) (anyOf period) (all-none asciiSet period ascii-no-period) (map (asciiLabel P) (labels form)) each-ascii)
+        (all-none (allOf asciiSet) (anyOf period) no-period (map (asciiLabel P) (labels form)) each-ascii)
 
   pub one-form : (s t : List ℕ) → Unmistaken P (labels s) → Unmistaken P (labels t) → OneForm P s t
   one-form s t U W = (apart, ap (asciiForm P))

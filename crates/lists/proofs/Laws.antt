@@ -1,6 +1,6 @@
 -- What a test that comes out true, or false, says: on Bools, on ranges, on lists.
 -- Assumes nothing.
-use mathlib.Core.Path.{_≡_, refl, sym, _∙_}
+use mathlib.Core.Path.{_≡_, refl, sym, ap, _∙_}
 use mathlib.Core.Bool.{Bool, true, false, not, _&&_, _||_, true≢false, false≢true}
 use mathlib.Core.List.{List, [], _∷_, _++_}
 use mathlib.Core.Logic.{_⊎_, inl, inr, ⊎-elim}
@@ -8,7 +8,7 @@ use Prim.Native.Nat.{ℕ, zero, suc, _≤_, _<_}
 use native.Mathlib.Omega.{arith}
 use lib.Dec.{eqb, leb}
 use lib.ListN.{length}
-use borrow.Author.Tests.{le-leb, leb-true, eqb-true, eq-eqb, not-true}
+use borrow.Author.Tests.{le-leb, leb-true, eqb-true, eq-eqb, ne-eqb, not-true}
 use Rattle.lists.specs.Tests.{pick, within, allOf, anyOf, indexOf, elem, same}
 
 -- ---- conjunction and disjunction
@@ -110,6 +110,14 @@ all-none f g imp (x ∷ xs) e =
 -- what fails of all holds of none
 pub all-not : {A : Type 0} (g : A → Bool) (l : List A) → allOf (λ c. not (g c)) l ≡ true → anyOf g l ≡ false
 all-not g = all-none (λ c. not (g c)) g (λ c. not-true (g c))
+
+-- what a test holds of is nothing that it fails of; so where it holds of all, that is not among them
+module _ (f : ℕ → Bool) (b : ℕ) (n : f b ≡ false) where
+  pub differs : (c : ℕ) → f c ≡ true → eqb c b ≡ false
+  differs c h = ne-eqb c b (λ e. clash h (ap f e ∙ n))
+
+  pub absent : (l : List ℕ) → allOf f l ≡ true → anyOf (λ (c : ℕ). eqb c b) l ≡ false
+  absent = all-none f (λ (c : ℕ). eqb c b) differs
 
 -- where f holds of all, g of none, and what f holds of is g's or h's, h holds of all
 pub all-but : {A : Type 0} (f g h : A → Bool) (imp : (c : A) → f c ≡ true → g c ≡ false → h c ≡ true) (l : List A)

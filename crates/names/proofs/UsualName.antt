@@ -10,12 +10,12 @@ use native.Mathlib.Omega.{arith}
 use lib.Dec.{eqb}
 use lib.ListN.{length, take, drop, getD, set, length-append, take-append-drop, drop-of-length-le}
 use lib.Seq.{drop-cons}
-use borrow.Author.Tests.{eq-eqb, ne-eqb, not-true, not-false}
+use borrow.Author.Tests.{eqb-false, eq-eqb, ne-eqb, not-true, not-false}
 use Rattle.lists.specs.Tests.{within, allOf, anyOf, elem, same}
 use Rattle.lists.specs.Front.{written}
 use Rattle.lists.specs.Rows.{first, Clear}
 use Rattle.lists.specs.declared.Answer.{Answer}
-use Rattle.lists.proofs.Laws.{either, both, or-right, clash, inside, outside, in-range, all-append, all-weaker, all-none, same-refl, same-is}
+use Rattle.lists.proofs.Laws.{either, both, or-right, inside, outside, in-range, all-append, all-weaker, all-none, differs, same-refl, same-is}
 use Rattle.lists.proofs.Pieces.{then}
 use Rattle.characters.specs.Characters.{alnum, hyphen, asciiSet, hiragana, katakana, signs, japaneseBy, kanjiWith, japaneseWith}
 use Rattle.characters.specs.Replace.{ranges, rangeIn, isHalf, replaceIn, replace}
@@ -30,6 +30,7 @@ use Rattle.rules.specs.declared.Class.the-variants.{General}
 use Rattle.rules.specs.declared.Verdict.{Verdict}
 use Rattle.rules.proofs.ByName.{text-cleared}
 use Rattle.rules.proofs.Cuts.{labels-cut}
+use Rattle.rules.proofs.Derived.{no-period}
 use Rattle.rules.proofs.Sound.{low}
 use Rattle.rules.proofs.Steps.{front-0, text-on, name-left, name-0}
 use Rattle.labels.specs.Known.{knownRows}
@@ -59,10 +60,6 @@ unfolding jaChar labelChar todayWith japaneseWith japaneseBy hiragana katakana k
 lent-marks table = record { voiced = refl; half-voiced = refl; dot = refl }
 
 module _ (P : Permits) (stretch : InStretch P) where
-  no-period : labelChar P 0x2E ≡ false
-  unfolding labelChar asciiSet alnum hyphen within
-  no-period = rw (low P stretch 0x2E (omega arith))
-
   jp-fits : allOf (labelChar P) jp ≡ true
   unfolding allOf labelChar asciiSet alnum within jp
   jp-fits = simp or-true
@@ -72,12 +69,8 @@ module _ (P : Permits) (stretch : InStretch P) where
   jp-ascii = rw (low P stretch 0x6A (omega arith), low P stretch 0x70 (omega arith))
 
   module _ (c : ℕ) (e : labelChar P c ≡ true) where
-    differs : (v : ℕ) → labelChar P v ≡ false → c ≡ v → ⊥
-    differs v n z = clash e (ap (labelChar P) z ∙ n)
-
-    char-period : period c ≡ false
-    unfolding period
-    char-period = ne-eqb c 0x2E (differs 0x2E no-period)
+    other : (v : ℕ) → labelChar P v ≡ false → c ≡ v → ⊥
+    other v n = eqb-false c v (differs (labelChar P) v n c e)
 
     kept : c ≡ replace c
     unfolding labelChar
@@ -86,7 +79,7 @@ module _ (P : Permits) (stretch : InStretch P) where
         (λ j. let r = in-range 0x3003 0x9FA0 c (stretch c j) in stays c (omega arith) (omega arith)) (ascii-stays c)
 
     char-unchanged : Marks P → unchanged c ≡ true
-    char-unchanged m = unchanged-by c kept (differs 0x309B (m .voiced)) (differs 0x309C (m .half-voiced))
+    char-unchanged m = unchanged-by c kept (other 0x309B (m .voiced)) (other 0x309C (m .half-voiced))
 
 -- ---- ".jp" at the end of a text
 
@@ -169,7 +162,7 @@ module _ (P : Permits) (stretch : InStretch P) (shorts : ShortMiddles P) (marks 
 
   labels-are : labels (normalForm text) ≡ label ∷ jp ∷ []
   unfolding labels intoFirst period jp
-  labels-are = ap labels form-is ∙ labels-cut label jp (all-none (labelChar P) period (char-period P stretch) label (w .fit))
+  labels-are = ap labels form-is ∙ labels-cut label jp (no-period P stretch label (w .fit))
 
   all-fit : anyOf (unfit P) (normalForm text) ≡ false
   unfolding unfit period

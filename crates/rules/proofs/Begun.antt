@@ -132,10 +132,10 @@ module _ (P : Permits) (H : HopeLaws P) where
   module _ {l : List ℕ} (S : Sound P 3 l) (h : pretends P ofName l ≡ false) where
     in-first : (f s : List ℕ) → l ≡ f ++ s → Grows f
     unfolding grows
-    in-first f s e = rw (begun-one f s l e (no-period P L l (S .chars))) (one-more P L (H .tried) f s (rw e at S) (rw e at h))
+    in-first f s e = rw (begun-one f s l e (no-period P (L .stretch) l (S .chars))) (one-more P L (H .tried) f s (rw e at S) (rw e at h))
 
     past-first : (g : List ℕ) {ls : List (List ℕ)} → labels g ≡ ls → grows P (l ∷ ls) ≡ true → Grows (l ++ 0x2E ∷ g)
-    past-first g e h = rw (labels-cut l g (no-period P L l (S .chars)), e) h
+    past-first g e h = rw (labels-cut l g (no-period P (L .stretch) l (S .chars)), e) h
 
     left-is : leftmost P l ≡ true
     left-is = meets-leftmost P l (S .meets) h
@@ -146,7 +146,7 @@ module _ (P : Permits) (H : HopeLaws P) where
 
     module _ (m : List ℕ) (p : middle P m ≡ true) where
       middle-no-period : anyOf period m ≡ false
-      middle-no-period = no-period P L m (of-middle P (allOf (labelChar P)) m (L .middle-chars) p)
+      middle-no-period = no-period P (L .stretch) m (of-middle P (allOf (labelChar P)) m (L .middle-chars) p)
 
       in-middle : (g s : List ℕ) → m ≡ g ++ s → Grows (l ++ 0x2E ∷ g)
       unfolding grows middle

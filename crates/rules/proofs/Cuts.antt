@@ -77,16 +77,6 @@ join-more (held p d) f a = refl
 
 -- ---- what a label holds
 
-no-periods : {t : List ℕ} {ls : List (List ℕ)} → Labelled t ls → anyOf (anyOf period) ls ≡ false
-unfolding anyOf
-no-periods none = refl
-no-periods (cut d) = no-periods d
-no-periods (held p d) = rw p (no-periods d)
-
--- no label holds a period
-pub no-period : (t : List ℕ) → anyOf (anyOf period) (labels t) ≡ false
-no-period t = no-periods (labelled t)
-
 module _ (P : Permits) where
   labels-held : {t : List ℕ} {ls : List (List ℕ)} → Labelled t ls → anyOf (unfit P) t ≡ false → allOf (allOf (labelChar P)) ls ≡ true
   unfolding allOf anyOf unfit

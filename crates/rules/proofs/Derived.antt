@@ -2,19 +2,19 @@
 -- three, the first sound, the last jp, the middle one listed.
 -- Assumes nothing.
 use mathlib.Core.Path.{_≡_, refl, ap, _∙_}
-use mathlib.Core.Bool.{Bool, true, false, not, _&&_, _||_, false≢true}
+use mathlib.Core.Bool.{Bool, true, false, not, _&&_, _||_}
 use mathlib.Core.List.{List, [], _∷_, _++_}
 use mathlib.Core.Logic.{_⊎_, inl, inr, ⊎-elim}
-use Prim.Native.Nat.{ℕ, _-_, _≤_}
+use Prim.Native.Nat.{ℕ, _≤_}
 use native.Mathlib.Omega.{arith}
 use lib.Dec.{eqb, leb}
 use lib.ListN.{length, length-append}
 use borrow.Author.Tests.{eqb-true, ltb-false, leb-true, not-true, not-false}
 use Rattle.lists.specs.Tests.{pick, within, allOf, anyOf}
-use Rattle.lists.proofs.Laws.{both, neither, or-right, refuted, any-append, all-none, in-lists, same-is, same-refl}
+use Rattle.lists.proofs.Laws.{both, neither, or-right, any-append, all-none, absent, in-lists, same-is, same-refl}
 use Rattle.characters.specs.Characters.{alnum, hyphen, asciiSet}
 use Rattle.rules.specs.Labels.{period, intoFirst, labels, join}
-use Rattle.rules.specs.Permits.{Permits, jaChar, ShortMiddles, Laws, labelChar, middle, isEmpty}
+use Rattle.rules.specs.Permits.{Permits, jaChar, InStretch, ShortMiddles, Laws, labelChar, middle, isEmpty}
 use Rattle.rules.specs.Rules.{unfit, isJapanese, long, Meets, jp, classOf}
 use Rattle.rules.specs.Grammar.{label, Derives, general, prefecture, listed}
 use Rattle.rules.specs.declared.Class.{Class}
@@ -53,6 +53,12 @@ two-or-three n b e = go (eqb n 2) refl e
     go true p q = inl (eqb-true n 2 p)
     go false p q = inr (eqb-true n 3 (both b (eqb n 3) q .1))
 
+-- ---- a label holds no period
+
+pub no-period : (P : Permits) → InStretch P → (l : List ℕ) → allOf (labelChar P) l ≡ true → anyOf period l ≡ false
+unfolding labelChar period asciiSet alnum within hyphen
+no-period P stretch = absent (labelChar P) 0x2E (rw (low P stretch 0x2E (omega arith)))
+
 module _ (P : Permits) (L : Laws P) where
   -- ---- from the rules to the grammar
 
@@ -80,13 +86,6 @@ module _ (P : Permits) (L : Laws P) where
     pub some : 1 ≤ length t
     pub few : length t ≤ 127
 
-  label-no-period : (c : ℕ) → labelChar P c ≡ true → period c ≡ false
-  unfolding labelChar period asciiSet alnum within hyphen
-  label-no-period c e = refuted (eqb c 0x2E) (λ p. false≢true (rw (eqb-true c 0x2E p, low P (L .stretch) 0x2E (omega arith)) at e))
-
-  pub no-period : (l : List ℕ) → allOf (labelChar P) l ≡ true → anyOf period l ≡ false
-  no-period l w = all-none (labelChar P) period label-no-period l w
-
   label-fit : (c : ℕ) → labelChar P c ≡ true → unfit P c ≡ false
   unfolding unfit
   label-fit c e = ap not (or-right (period c) (labelChar P c) e)
@@ -110,7 +109,7 @@ module _ (P : Permits) (L : Laws P) where
   unfolding anyOf isEmpty jp classOf
   named (general {l = l} d) =
       let S = label-sound P L d in
-      let e : labels (l ++ 0x2E ∷ 0x6A ∷ 0x70 ∷ []) ≡ l ∷ (0x6A ∷ 0x70 ∷ []) ∷ [] = labels-cut l _ (no-period l (S .chars)) ∙ rw labels-jp in
+      let e : labels (l ++ 0x2E ∷ 0x6A ∷ 0x70 ∷ []) ≡ l ∷ (0x6A ∷ 0x70 ∷ []) ∷ [] = labels-cut l _ (no-period P (L .stretch) l (S .chars)) ∙ rw labels-jp in
       let n = meets-length P 3 l (S .meets) in
       record {
         fit = fits l _ (S .chars) jp-fits;
@@ -123,7 +122,7 @@ module _ (P : Permits) (L : Laws P) where
       let S = label-sound P L d in
       let w = of-middle P (allOf (labelChar P)) m (L .middle-chars) p in
       let e : labels (l ++ 0x2E ∷ (m ++ 0x2E ∷ 0x6A ∷ 0x70 ∷ [])) ≡ l ∷ m ∷ (0x6A ∷ 0x70 ∷ []) ∷ [] =
-      labels-cut l _ (no-period l (S .chars)) ∙ rw (labels-cut m (0x6A ∷ 0x70 ∷ []) (no-period m w), labels-jp) in
+      labels-cut l _ (no-period P (L .stretch) l (S .chars)) ∙ rw (labels-cut m (0x6A ∷ 0x70 ∷ []) (no-period P (L .stretch) m w), labels-jp) in
       let n = meets-length P 3 l (S .meets) in
       let i = middle-length P (L .middle-short) m p in
       let f = of-middle P (λ (l : List ℕ). not (isEmpty l)) m (L .middle-filled) p in

@@ -112,7 +112,7 @@ module _ (P : Permits) (L : Laws P) where
   cut-more : {l r : List ℕ} {n : ℕ} → host-label P l → Cut n r → Cut (suc n) (l ++ 0x2E ∷ r)
   cut-more {l} {r} d C =
       let w = host-sound d .0 .chars in
-      let e = labels-cut l r (no-period P L l w) in
+      let e = labels-cut l r (no-period P (L .stretch) l w) in
       record {
         fit = fits P L l r w (C .fit);
         some = omega (arith, length-append l (0x2E ∷ r));
@@ -123,7 +123,7 @@ module _ (P : Permits) (L : Laws P) where
   cut-some : {t : List ℕ} → host-labels P t → Cut 1 t
   cut-some (last {l = l} d) =
       let S = host-sound d .0 in
-      let e = labels-one l (no-period P L l (S .chars)) in
+      let e = labels-one l (no-period P (L .stretch) l (S .chars)) in
       record { fit = all-fit P L l (S .chars); some = filled-some l (S .filled); count = rw e (omega arith); each = rw e (also d none) }
   cut-some (more d h) = let C = cut-more d (cut-some h) in record { fit = C .fit; some = C .some; count = omega (arith, C .count); each = C .each }
 

@@ -71,7 +71,7 @@ module _ (P : Permits) (L : Laws P) where
   -- ---- a name and its leftmost label
 
   left-is : {l : List ℕ} → Sound P 3 l → (r : List ℕ) → getD (labels (l ++ 0x2E ∷ r)) 0 [] ≡ l
-  left-is {l} S r = ap (λ (ls : List (List ℕ)). getD ls 0 []) (labels-cut l r (no-period P L l (S .chars)))
+  left-is {l} S r = ap (λ (ls : List (List ℕ)). getD ls 0 []) (labels-cut l r (no-period P (L .stretch) l (S .chars)))
 
   pub left-pretends : {t : List ℕ} → PRETENDS t → pretends P ofName (getD (labels t) 0 []) ≡ true
   unfolding pretends
