@@ -1,5 +1,7 @@
 //! What a call answers.
 
+use crate::chars::Kinds;
+
 /// The class of an accepted name.
 #[derive(Clone, Copy, Debug, PartialEq, Eq)]
 pub enum Class {
@@ -36,17 +38,20 @@ impl Refusal {
     }
 }
 
-/// The answer of a call that has a lent buffer.
-#[derive(Clone, Copy, Debug, PartialEq, Eq)]
+/// The answer of a call that has a lent buffer. Only that of the whole ASCII form
+/// has kinds, and only where the name is accepted.
+#[derive(Clone, Debug, PartialEq, Eq)]
 pub struct Answer {
     pub number: u8,
     pub place: usize,
     pub class: Option<Class>,
+    pub kinds: Kinds,
     pub length: usize,
 }
 
 impl From<Refusal> for Answer {
     fn from(refusal: Refusal) -> Answer {
-        Answer { number: refusal.number, place: refusal.place, class: None, length: 0 }
+        let Refusal { number, place } = refusal;
+        Answer { number, place, class: None, kinds: Kinds::new(), length: 0 }
     }
 }

@@ -1,7 +1,8 @@
 //! The batch: lines of an id, a tab and a name.
 
 use crate::answer::Class;
-use crate::name;
+use crate::chars::letters;
+use crate::name::{self, Formed};
 use crate::utf8;
 
 const LONGEST_LINE: usize = 1024;
@@ -21,11 +22,13 @@ pub fn desk(input: &[u8]) -> Vec<u8> {
 /// The answer to one line, without its LF.
 pub fn answer_line(line: &[u8]) -> String {
     let Some((id, text)) = read_line(line) else {
-        return "-\t16\t0\t-\t-".to_string();
+        return "-\t16\t0\t-\t-\t-".to_string();
     };
     match name::ascii_form(&text) {
-        Ok((form, class)) => format!("{id}\t0\t0\t{}\t{form}", Class::letter(Some(class))),
-        Err(refusal) => format!("{id}\t{}\t{}\t-\t-", refusal.number, refusal.place),
+        Ok(Formed { form, class, kinds }) => {
+            format!("{id}\t0\t0\t{}\t{form}\t{}", Class::letter(Some(class)), letters(&kinds))
+        }
+        Err(refusal) => format!("{id}\t{}\t{}\t-\t-\t-", refusal.number, refusal.place),
     }
 }
 

@@ -3,6 +3,7 @@
 
 use crate::answer::{Answer, Class, Refusal};
 use crate::batch;
+use crate::chars::Kinds;
 use crate::coder;
 use crate::host;
 use crate::name;
@@ -21,7 +22,7 @@ fn lend<T: Copy>(buffer: &mut [T], room: usize, outcome: impl FnOnce() -> Outcom
         Err(refusal) => refusal.into(),
         Ok((written, class)) => {
             buffer[..written.len()].copy_from_slice(&written);
-            Answer { number: 0, place: 0, class, length: written.len() }
+            Answer { number: 0, place: 0, class, kinds: Kinds::new(), length: written.len() }
         }
     }
 }
@@ -40,11 +41,15 @@ pub fn check(text: &[u32], buffer: &mut [u32]) -> Answer {
     })
 }
 
+/// The one call that tells kinds.
 pub fn ascii_form(text: &[u32], buffer: &mut [u8]) -> Answer {
-    lend(buffer, 192, || {
-        let (form, class) = name::ascii_form(text)?;
-        Ok((form.into_bytes(), Some(class)))
-    })
+    let mut kinds = Kinds::new();
+    let answer = lend(buffer, 192, || {
+        let formed = name::ascii_form(text)?;
+        kinds = formed.kinds;
+        Ok((formed.form.into_bytes(), Some(formed.class)))
+    });
+    Answer { kinds, ..answer }
 }
 
 pub fn host_form(text: &[u32], buffer: &mut [u8]) -> Answer {

@@ -1,6 +1,6 @@
-//! The characters: ASCII set, period, Japanese characters.
+//! The characters: ASCII set, period, Japanese characters and their kinds.
 
-use std::collections::{BTreeSet, HashSet};
+use std::collections::{BTreeSet, HashMap};
 use std::sync::OnceLock;
 
 pub const HYPHEN: u32 = 0x2D;
@@ -12,6 +12,28 @@ const ROWS: &str = include_str!("../kanji.txt");
 
 /// The ten signs of row 1, as code points: the documents' print is unsure.
 pub const SIGNS: [u32; 10] = [0x30FB, 0x30FD, 0x30FE, 0x309D, 0x309E, 0x4EDD, 0x3005, 0x3006, 0x3007, 0x30FC];
+
+/// The kind of a Japanese character (K6), in the order in which kinds are printed.
+#[derive(Clone, Copy, Debug, PartialEq, Eq, PartialOrd, Ord)]
+pub enum Kind {
+    Hiragana,
+    Katakana,
+    Kanji,
+    Sign,
+}
+
+impl Kind {
+    /// The letter used in print: H, K, J, S, or - for none.
+    pub fn letter(kind: Option<Kind>) -> char {
+        match kind {
+            Some(Kind::Hiragana) => 'H',
+            Some(Kind::Katakana) => 'K',
+            Some(Kind::Kanji) => 'J',
+            Some(Kind::Sign) => 'S',
+            None => '-',
+        }
+    }
+}
 
 /// The kanji in order of code point.
 pub fn kanji() -> &'static BTreeSet<u32> {
@@ -27,25 +49,50 @@ pub fn kanji_in_rows() -> Vec<u32> {
         .collect()
 }
 
-/// All Japanese characters. The counts that document 01 gives are checked here.
-pub fn japanese() -> &'static HashSet<u32> {
-    static JAPANESE: OnceLock<HashSet<u32>> = OnceLock::new();
+/// All Japanese characters and their kinds. The counts that document 01 gives
+/// are checked here; they add up, so no character has two kinds.
+pub fn japanese() -> &'static HashMap<u32, Kind> {
+    static JAPANESE: OnceLock<HashMap<u32, Kind>> = OnceLock::new();
     JAPANESE.get_or_init(|| {
-        let hiragana: Vec<u32> = ('ぁ'..='ん').map(u32::from).collect();
-        let katakana: Vec<u32> = ('ァ'..='ヶ').map(u32::from).collect();
-        assert_eq!((hiragana.len(), katakana.len()), (83, 86));
-        assert_eq!(kanji().len(), 6355);
-        let mut all: HashSet<u32> = kanji().clone().into_iter().collect();
-        all.extend(hiragana);
-        all.extend(katakana);
-        all.extend(SIGNS);
+        let hiragana = ('ぁ'..='ん').map(u32::from).collect();
+        let katakana = ('ァ'..='ヶ').map(u32::from).collect();
+        let mut all = HashMap::new();
+        let mut list = |kind: Kind, codes: Vec<u32>, count: usize| {
+            assert_eq!(codes.len(), count);
+            all.extend(codes.into_iter().map(|code| (code, kind)));
+        };
+        list(Kind::Hiragana, hiragana, 83);
+        list(Kind::Katakana, katakana, 86);
+        list(Kind::Kanji, kanji().iter().copied().collect(), 6355);
+        list(Kind::Sign, SIGNS.to_vec(), 10);
         assert_eq!(all.len(), 6534);
         all
     })
 }
 
+/// The kind of a code point, or none where it is not Japanese.
+pub fn kind(code: u32) -> Option<Kind> {
+    japanese().get(&code).copied()
+}
+
+/// Any kind but none.
 pub fn is_japanese(code: u32) -> bool {
-    japanese().contains(&code)
+    kind(code).is_some()
+}
+
+pub type Kinds = BTreeSet<Kind>;
+
+/// The kinds found among some characters. What is unfit has no kind.
+pub fn kinds(characters: &[u32]) -> Kinds {
+    characters.iter().filter_map(|code| kind(*code)).collect()
+}
+
+/// The letters of some kinds as a word, or - where there is none.
+pub fn letters(kinds: &Kinds) -> String {
+    match kinds.is_empty() {
+        true => "-".to_string(),
+        false => kinds.iter().map(|kind| Kind::letter(Some(*kind))).collect(),
+    }
 }
 
 /// Letters in lower case and digits. Upper case never outlives the normal form.

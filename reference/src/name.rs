@@ -1,7 +1,7 @@
 //! The name rules in the order of document 01, with row 17 of document 02's K3.
 
 use crate::answer::{Class, Refusal};
-use crate::chars::{is_ascii_set, is_japanese, HYPHEN, MIDDLE_DOT, PERIOD};
+use crate::chars::{is_ascii_set, is_japanese, kinds, Kinds, HYPHEN, MIDDLE_DOT, PERIOD};
 use crate::coder;
 use crate::normal::{labels, normal_form, placed_normal_form};
 use crate::points;
@@ -30,6 +30,15 @@ pub struct Accepted {
     pub normal: Vec<u32>,
     pub labels: Vec<Vec<u32>>,
     pub class: Class,
+}
+
+/// The whole ASCII form of such a name.
+#[derive(Clone, Debug, PartialEq, Eq)]
+pub struct Formed {
+    pub form: String,
+    pub class: Class,
+    /// The kinds found in the leftmost label of the normal form.
+    pub kinds: Kinds,
 }
 
 /// The Latin prefecture labels in lower case.
@@ -216,9 +225,9 @@ pub fn label_form(label: &[u32]) -> Result<String, Refusal> {
 }
 
 /// The whole ASCII form, given room: the check's refusals, then 14.
-pub fn ascii_form(text: &[u32]) -> Result<(String, Class), Refusal> {
+pub fn ascii_form(text: &[u32]) -> Result<Formed, Refusal> {
     let accepted = check(text)?;
     let parts: Vec<String> =
         accepted.labels.iter().map(|label| label_form(label)).collect::<Result<_, _>>()?;
-    Ok((parts.join("."), accepted.class))
+    Ok(Formed { form: parts.join("."), class: accepted.class, kinds: kinds(&accepted.labels[0]) })
 }

@@ -76,10 +76,10 @@ pub fn joined(base: u32, mark: u32) -> Option<u32> {
     compositions().get(&(base, mark)).copied()
 }
 
-/// The letter of a code point's kind: L letter, D digit, H hyphen,
+/// The letter of a code point's replacement class: L letter, D digit, H hyphen,
 /// S separator, K half-width kana, M mark, O other. Letters and digits are
 /// so in either case and width; the half-width marks are half-width kana.
-pub fn kind(code: u32) -> char {
+pub fn replacement_class(code: u32) -> char {
     let is_half_width = char::from_u32(code).is_some_and(|c| HALF_WIDTH.contains(c));
     match char::from_u32(replaced(code)) {
         _ if is_half_width => 'K',

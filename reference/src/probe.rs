@@ -4,7 +4,7 @@
 use crate::answer::{Answer, Class, Refusal};
 use crate::batch;
 use crate::calls;
-use crate::chars;
+use crate::chars::{self, Kind};
 use crate::grammar;
 use crate::hope;
 use crate::live::{Live, Shown};
@@ -42,12 +42,12 @@ fn read_and_answer(line: &[u8]) -> Option<String> {
 /// names it itself is one here.
 fn on_numbers(call: &str, lent: usize, numbers: &[u32]) -> Option<String> {
     Some(match call {
-        "N" => in_points(lent, |buffer| plain(calls::normal_form(numbers, buffer))),
-        "C" | "c" => in_points(lent, |buffer| classed(calls::check(numbers, buffer))),
-        "A" | "a" => in_octets(lent, |buffer| classed(calls::ascii_form(numbers, buffer))),
-        "E" => in_octets(lent, |buffer| plain(calls::encode_label(numbers, buffer))),
-        "H" | "h" => in_octets(lent, |buffer| plain(calls::host_form(numbers, buffer))),
-        "X" => in_octets(lent, |buffer| plain(calls::label_form(numbers, buffer))),
+        "N" => in_points(lent, |buffer| plain(&calls::normal_form(numbers, buffer))),
+        "C" | "c" => in_points(lent, |buffer| classed(&calls::check(numbers, buffer))),
+        "A" | "a" => in_octets(lent, |buffer| with_kinds(&calls::ascii_form(numbers, buffer))),
+        "E" => in_octets(lent, |buffer| plain(&calls::encode_label(numbers, buffer))),
+        "H" | "h" => in_octets(lent, |buffer| plain(&calls::host_form(numbers, buffer))),
+        "X" => in_octets(lent, |buffer| plain(&calls::label_form(numbers, buffer))),
         "R" => in_points(lent, |buffer| asked_first(numbers, buffer)),
         "S" | "s" => flag(grammar::second_reader(numbers)).to_string(),
         "L" | "l" | "J" | "j" => live(numbers),
@@ -63,7 +63,7 @@ fn on_numbers(call: &str, lent: usize, numbers: &[u32]) -> Option<String> {
 
 fn on_octets(call: &str, lent: usize, octets: &[u8]) -> String {
     match call {
-        "D" => in_points(lent, |buffer| plain(calls::decode_label(octets, buffer))),
+        "D" => in_points(lent, |buffer| plain(&calls::decode_label(octets, buffer))),
         "U" => in_points(lent, |buffer| counted(calls::decode_utf8(octets, buffer))),
         "W" => in_octets(lent, |buffer| counted(calls::answer_line(octets, buffer))),
         "F" => fields(lent, octets),
@@ -98,13 +98,18 @@ fn flag(yes: bool) -> char {
     }
 }
 
-fn plain(answer: Answer) -> String {
+fn plain(answer: &Answer) -> String {
     format!("{} {} {}", answer.number, answer.place, answer.length)
 }
 
-fn classed(answer: Answer) -> String {
+fn classed(answer: &Answer) -> String {
     let class = Class::letter(answer.class);
     format!("{} {} {class} {}", answer.number, answer.place, answer.length)
+}
+
+fn with_kinds(answer: &Answer) -> String {
+    let (class, kinds) = (Class::letter(answer.class), chars::letters(&answer.kinds));
+    format!("{} {} {class} {kinds} {}", answer.number, answer.place, answer.length)
 }
 
 /// Whether a call did its work, and the count it gives.
@@ -172,7 +177,7 @@ fn live_host(numbers: &[u32]) -> String {
 fn asked_first(numbers: &[u32], buffer: &mut [u32]) -> String {
     let answer = calls::normal_form(numbers, buffer);
     let unfit = name::unfit_place(numbers).filter(|_place| answer.number == 0);
-    format!("{} {} {}", plain(answer), flag(unfit.is_some()), unfit.unwrap_or(0))
+    format!("{} {} {}", plain(&answer), flag(unfit.is_some()), unfit.unwrap_or(0))
 }
 
 /// A flag for every state of the live check, then those of the three ways to
@@ -193,11 +198,12 @@ fn hopes(numbers: &[u32]) -> String {
 fn characters(numbers: &[u32]) -> String {
     let next = numbers.iter().skip(1).chain([&0]);
     words(numbers.iter().zip(next).map(|(code, next)| {
-        let japanese = chars::is_japanese(*code);
-        let flags = [chars::is_letter_or_digit(*code), chars::is_ascii_set(*code), japanese, japanese];
+        let flags = [chars::is_letter_or_digit(*code), chars::is_ascii_set(*code), chars::is_japanese(*code)];
         let flags: String = flags.into_iter().map(flag).collect();
+        let kind = Kind::letter(chars::kind(*code));
+        let class = normal::replacement_class(*code);
         let joined = normal::joined(*code, *next).unwrap_or(0);
-        format!("{flags}{} {:x} {joined:x}", normal::kind(*code), normal::replaced(*code))
+        format!("{flags}{kind}{kind}{class} {:x} {joined:x}", normal::replaced(*code))
     }))
 }
 
@@ -218,11 +224,11 @@ fn whole(halves: &[u32]) -> usize {
 }
 
 /// The refusal of a label, where one ends, its first unfit character, whether
-/// it is Japanese, the refusals if it is taken for Japanese and for ASCII, how
-/// it may end a name, and what each character of it is. The label comes after
-/// six numbers: the halves of where to begin, of the least length and of the
-/// label's place. LEN is 0 where the hyphen pair is refused in ASCII labels
-/// alone.
+/// it is Japanese, whether it holds only what a label may and, where it does,
+/// its kinds, the refusals if it is taken for Japanese and for ASCII, how it may
+/// end a name, and what each character of it is. The label comes after six
+/// numbers: the halves of where to begin, of the least length and of the label's
+/// place. LEN is 0 where the hyphen pair is refused in ASCII labels alone.
 fn label(lent: usize, numbers: &[u32]) -> Option<String> {
     let (halves, label) = numbers.split_at_checked(6)?;
     let (from, least, place) = (whole(&halves[..2]), whole(&halves[2..4]), whole(&halves[4..]));
@@ -234,10 +240,13 @@ fn label(lent: usize, numbers: &[u32]) -> Option<String> {
     let rule = said(name::check_label(label, family, place));
     let (end, unfit) = (name::label_end(label, from), name::first_unfit(label));
     let japanese = flag(name::is_japanese_label(label));
+    let fit = label.iter().copied().all(name::may_be_in_label);
+    let kinds = chars::letters(&chars::kinds(if fit { label } else { &[] }));
     let for_japanese = said(name::check_taken(label, true, family, place));
     let for_ascii = said(name::check_taken(label, false, family, place));
     let ending = endings(label);
-    let mut out = format!("{rule} {end} {unfit} {japanese} {for_japanese} {for_ascii} {ending}");
+    let mut out =
+        format!("{rule} {end} {unfit} {japanese} {}{kinds} {for_japanese} {for_ascii} {ending}", flag(fit));
     for code in label {
         out.extend([' ', flag(name::may_be_in_label(*code)), flag(name::is_ordinary(*code))]);
     }

@@ -4,6 +4,7 @@ use reference::answer::{Class, Refusal};
 use reference::cases::hosts::HostMaker;
 use reference::cases::random::{accepted_lines, any_label, NameMaker};
 use reference::live::Live;
+use reference::name::Formed;
 use reference::random::Random;
 use reference::{cases, chars, coder, grammar, hope, host, name, normal, utf8};
 
@@ -291,7 +292,7 @@ fn prefecture_names_are_hosts() {
     let (mut same, mut paired) = (0, 0);
     for line in accepted_lines(6_000, 23) {
         let text = cases::numbers_of(&line);
-        let (form, class) = name::ascii_form(&text).unwrap();
+        let Formed { form, class, .. } = name::ascii_form(&text).unwrap();
         let leftmost = normal::labels(&normal::normal_form(&text)).swap_remove(0);
         let expected = match class {
             Class::GeneralUse => Err(Refusal::plain(5)),

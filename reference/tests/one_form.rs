@@ -50,8 +50,8 @@ fn names_have_one_form_each() {
     let maker = NameMaker::default();
     let mut register = Register::default();
     for text in texts("NCAL", |random| maker.typed_name(random)) {
-        if let Ok((form, _)) = name::ascii_form(&text) {
-            register.enter(&form, &text);
+        if let Ok(formed) = name::ascii_form(&text) {
+            register.enter(&formed.form, &text);
         }
     }
     let met = (register.form_of.len(), register.other_texts);
@@ -116,7 +116,7 @@ fn without_17_two_names_shared_a_form() {
     let (kana, plain) = (points("\u{3042}.jp"), points("xn--l8j.jp"));
     assert_eq!(grammar::class_of(&kana), Some(Class::GeneralUse));
     assert_eq!(grammar::class_of(&plain), Some(Class::GeneralUse));
-    assert_eq!(name::ascii_form(&kana), Ok(("xn--l8j.jp".to_string(), Class::GeneralUse)));
+    assert_eq!(name::ascii_form(&kana).unwrap().form, "xn--l8j.jp");
     assert_eq!(stand_ins(&kana), [plain.clone()]);
     for label in ["xn--l8j", "jp"] {
         assert_eq!(name::label_form(&points(label)), Ok(label.to_string()));

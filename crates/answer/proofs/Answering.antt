@@ -22,13 +22,12 @@ use Rattle.normal.specs.Normal.{normalForm}
 use Rattle.rules.specs.Labels.{labels}
 use Rattle.rules.specs.Permits.{Permits}
 use Rattle.rules.specs.Rules.{frontRows, nameRows, textRows, verdict}
-use Rattle.rules.specs.declared.Class.the-variants.{None}
 use Rattle.rules.proofs.Steps.{front-3}
-use Rattle.names.specs.Calls.{asciiRows}
+use Rattle.names.specs.Calls.{asciiRows, kindsSaid}
 use Rattle.lines.specs.declared.Parts.the-variants.{Two, Other}
 use Rattle.unicode.specs.Utf8.{decoded}
 use Rattle.lines.specs.Fields.{tab, idOf, nameOf, oneTab, goodId, partsOf}
-use Rattle.answer.specs.Answer.{badLine, answerLine, badAnswer, goodAnswer, answerTo}
+use Rattle.answer.specs.Answer.{badLine, refusedAnswer, badAnswer, goodAnswer, answerTo}
 use Rattle.answer.specs.Answers.{most, Writes, fieldsAnswer}
 
 -- ---- a text of more than 256 code points is refused with 3 at 256, whatever it holds
@@ -43,8 +42,8 @@ module _ (P : Permits) (id : List ℕ) where
       passed-over 1 (ltb 192 192) 0 _ refl
       ∙ refused-before (frontRows P text ++ nameRows P (labels (normalForm text))) _ (λ z. omega (arith, ap (λ (a : Answer). a .number) f)) ∙ f
 
-  over-line : (text : List ℕ) → 256 < length text → goodAnswer P id text ≡ answerLine id 3 256 None (0x2D ∷ [])
-  unfolding goodAnswer verdict
+  over-line : (text : List ℕ) → 256 < length text → goodAnswer P id text ≡ refusedAnswer id 3 256
+  unfolding goodAnswer refusedAnswer verdict kindsSaid
   over-line text h = rw (over text h)
 
   -- so its first 257 say the same

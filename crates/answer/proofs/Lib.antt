@@ -7,5 +7,7 @@ mod Reading
 mod UsualLine
 mod First
 pub mod Longest
+pub mod Fields
 pub mod OneForm
+pub mod Scripts
 pub mod Unique

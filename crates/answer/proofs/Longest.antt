@@ -1,5 +1,5 @@
--- No answer is longer than 256 bytes: an id has at most 32, number and place three digits each, and the ASCII form of an accepted
--- name is two or three labels of at most 63 octets each.
+-- No answer is longer than 256 bytes: an id has at most 32, number and place three digits each, the kinds four letters, and the ASCII form
+-- of an accepted name is two or three labels of at most 63 octets each.
 -- Assumes nothing.
 use mathlib.Core.Path.{_≡_, refl}
 use mathlib.Core.Bool.{Bool, true, false, not}
@@ -19,27 +19,29 @@ use Rattle.rules.specs.Permits.{Permits, ShortMiddles}
 use Rattle.rules.specs.Rules.{verdict}
 use Rattle.rules.specs.Editions.{today, todayWith}
 use Rattle.rules.proofs.Today.{lending, lent-short}
+use Rattle.rules.specs.Kinds.{noKinds}
+use Rattle.rules.specs.declared.Kinds.{Kinds}
 use Rattle.rules.specs.declared.Class.{Class}
 use Rattle.rules.specs.declared.Class.the-variants.{None}
 use Rattle.rules.specs.declared.Verdict.{Verdict}
 use Rattle.ascii.specs.Ascii.{asciiLabel, asciiForm, uncoded, writable}
 use Rattle.ascii.proofs.OfNames.{label-size}
-use Rattle.names.specs.Calls.{asciiRows}
+use Rattle.names.specs.Calls.{asciiRows, kindsSaid}
 use Rattle.names.proofs.Enough.{accepted-writable}
 use Rattle.names.proofs.Answering.{ascii-passed}
 use Rattle.unicode.specs.Utf8.{decoded}
 use Rattle.lines.specs.Fields.{idOf, nameOf, oneTab, goodId}
 use Rattle.lines.proofs.LineFields.{id-length}
-use Rattle.answer.specs.Answer.{badLine, answerLine, badAnswer, goodAnswer, answerTo}
-use Rattle.answer.proofs.Pieces.{decimal-length}
+use Rattle.answer.specs.Answer.{badLine, answerLine, refusedAnswer, badAnswer, goodAnswer, answerTo}
+use Rattle.answer.proofs.Pieces.{decimal-length, field-length}
 
-line-length : (id : List ℕ) (number place : ℕ) (class : Class) (form : List ℕ) → length (answerLine id number place class form) ≤ length id + length form + 12
+line-length : (id : List ℕ) (number place : ℕ) (class : Class) (form : List ℕ) (ks : Kinds) → length (answerLine id number place class form ks) ≤ length id + length form + 17
 unfolding answerLine
-line-length id number place class form = simp length-append (omega (arith, decimal-length number, decimal-length place))
+line-length id number place class form ks = simp length-append (omega (arith, decimal-length number, decimal-length place, field-length ks))
 
 pub bad-length : length badAnswer ≤ 256
-unfolding badAnswer
-bad-length = omega (arith, line-length (0x2D ∷ []) 16 0 None (0x2D ∷ []))
+unfolding badAnswer refusedAnswer
+bad-length = omega (arith, line-length (0x2D ∷ []) 16 0 None (0x2D ∷ []) noKinds)
 
 -- of a line that is not bad, the id is good
 pub good-id : (line : List ℕ) → badLine line ≡ false → goodId (idOf line) ≡ true
@@ -84,11 +86,14 @@ module _ (table : List ℕ) where
       v : Verdict
       v = verdict (first (asciiRows edition text 192)) (labels (normalForm text))
 
+      ks : Kinds
+      ks = kindsSaid edition (labels (normalForm text)) (v .number)
+
       go : (b : Bool) → eqb (first (asciiRows edition text 192) .number) 0 ≡ b
-          → length (answerLine id (v .number) (v .place) (v .class) (pick b (asciiForm edition (normalForm text)) (0x2D ∷ []))) ≤ 256
+          → length (answerLine id (v .number) (v .place) (v .class) (pick b (asciiForm edition (normalForm text)) (0x2D ∷ [])) ks) ≤ 256
       go true e =
-          omega (arith, line-length id (v .number) (v .place) (v .class) (asciiForm edition (normalForm text)), form-short edition (lent-short table) text (eqb-true _ 0 e))
-      go false e = omega (arith, line-length id (v .number) (v .place) (v .class) (0x2D ∷ []))
+          omega (arith, line-length id (v .number) (v .place) (v .class) (asciiForm edition (normalForm text)) ks, form-short edition (lent-short table) text (eqb-true _ 0 e))
+      go false e = omega (arith, line-length id (v .number) (v .place) (v .class) (0x2D ∷ []) ks)
 
   pub longest : (line : List ℕ) → length (answerTo edition line) ≤ 256
   unfolding answerTo

@@ -1,17 +1,26 @@
--- The pieces of an answer line: a number has one to three digits, each of which is the last digit of a quotient.
+-- The pieces of an answer line: a number has one to three digits, each of which is the last digit of a quotient; the kinds have a letter
+-- each, or a hyphen where there is none.
 -- Assumes nothing.
-use mathlib.Core.Path.{_≡_, ap}
-use mathlib.Core.List.{List, [], _∷_, _++_}
+use mathlib.Core.Path.{_≡_, refl, sym, ap, _∙_}
+use mathlib.Core.Bool.{Bool, true, false}
+use mathlib.Core.List.{List, [], _∷_, _++_, append-nil, append-assoc}
 use mathlib.Core.Logic.{⊎-elim}
 use Prim.Native.Nat.{ℕ, _+_, _/_, _%_, _≤_, _<_}
 use native.Mathlib.Omega.{arith}
-use lib.Dec.{ltb}
-use lib.ListN.{length, length-append}
+use lib.Dec.{leb, ltb}
+use lib.ListN.{length, take, drop, length-append, take-append-drop}
 use borrow.Author.Tests.{lt-ltb, le-ltb}
-use Rattle.lists.specs.Tests.{pick}
-use Rattle.lists.proofs.Laws.{lt-or-le}
-use Rattle.answer.specs.Answer.{decimalBy, decimal}
-use Rattle.answer.specs.Answers.{frontOf}
+use Rattle.lists.specs.Tests.{pick, allOf}
+use Rattle.lists.specs.Front.{Puts}
+use Rattle.lists.proofs.Laws.{lt-or-le, by-test, all-append}
+use Rattle.characters.specs.Characters.{kindLetter}
+use Rattle.characters.specs.declared.Kind.{Kind}
+use Rattle.characters.specs.declared.Kind.the-variants.{Hiragana, Katakana, Kanji, Sign, None}
+use Rattle.rules.specs.Permits.{isEmpty}
+use Rattle.rules.specs.declared.Class.{Class}
+use Rattle.rules.specs.declared.Kinds.{Kinds}
+use Rattle.answer.specs.Answer.{decimalBy, decimal, letter, shown, kindLetters, kindField, answerLine, refusedAnswer}
+use Rattle.answer.specs.Answers.{frontOf, beforeForm, afterForm}
 
 -- ---- a number by its digits, each of which is the last digit of a quotient
 
@@ -47,3 +56,97 @@ decimal-length x =
 pub front-length : (id : List ℕ) (number place : ℕ) → length (frontOf id number place) ≤ length id + 9
 unfolding frontOf
 front-length id number place = simp length-append (omega (arith, decimal-length number, decimal-length place))
+
+-- ---- the kinds
+
+-- nothing put leaves all as it was
+skipped : {before : List ℕ} {n : ℕ} → n ≤ length before → Puts [] before before n n
+skipped {before} {n} h = record { place = omega arith; room = h; buffer = sym (take-append-drop n before) ∙ ap (λ (l : List ℕ). l ++ drop n before) (sym (append-nil (take n before))) }
+
+module _ {before : List ℕ} {n : ℕ} (found : Bool) (letter : ℕ) where
+  pub found-put : {after : List ℕ} {r : ℕ} → found ≡ true → Puts (letter ∷ []) before after n r → Puts (pick found (letter ∷ []) []) before after n r
+  found-put e p = rw e p
+
+  pub found-none : found ≡ false → n < length before → Puts (pick found (letter ∷ []) []) before before n n
+  found-none e h = rw e (skipped (omega arith))
+
+found-length : (found : Bool) (letter : ℕ) → length (pick found (letter ∷ []) []) ≤ 1
+found-length true letter = omega arith
+found-length false letter = omega arith
+
+-- a letter at most for each kind
+pub each-length : (ks : Kinds) → (length (shown (ks .hiragana) Hiragana) ≤ 1) × ((length (shown (ks .katakana) Katakana) ≤ 1) × ((length (shown (ks .kanji) Kanji) ≤ 1) × (length (shown (ks .sign) Sign) ≤ 1)))
+each-length ks =
+    (found-length (ks .hiragana) (kindLetter Hiragana), (found-length (ks .katakana) (kindLetter Katakana), (found-length (ks .kanji) (kindLetter Kanji), found-length (ks .sign) (kindLetter Sign))))
+
+letters-length : (ks : Kinds) → length (kindLetters ks) ≤ 4
+unfolding kindLetters
+letters-length ks = simp length-append (omega (arith, each-length ks))
+
+-- no letter of a kind, and not the hyphen, is a control character
+letters-from : (found : Bool) (k : Kind) → allOf (leb 0x2D) (shown found k) ≡ true
+unfolding allOf kindLetter
+letters-from false k = refl
+letters-from true Hiragana = refl
+letters-from true Katakana = refl
+letters-from true Kanji = refl
+letters-from true Sign = refl
+letters-from true None = refl
+
+all-letters : (ks : Kinds) → allOf (leb 0x2D) (kindLetters ks) ≡ true
+unfolding kindLetters
+all-letters ks = simp (all-append, letters-from)
+
+pub all-field : (ks : Kinds) → allOf (leb 0x2D) (kindField ks) ≡ true
+unfolding kindField allOf
+all-field ks = by-test (λ b. allOf (leb 0x2D) (pick b (0x2D ∷ []) (kindLetters ks)) ≡ true) (isEmpty (kindLetters ks)) (λ e. refl) (λ e. all-letters ks)
+
+is-empty : (xs : List ℕ) → length xs ≡ 0 → xs ≡ []
+is-empty [] e = refl
+is-empty (x ∷ xs) e = absurd (omega arith)
+
+not-empty : (xs : List ℕ) → (length xs ≡ 0 → ⊥) → isEmpty xs ≡ false
+unfolding isEmpty
+not-empty [] h = absurd (h refl)
+not-empty (x ∷ xs) h = refl
+
+-- letters were put exactly where the place has moved
+module _ (ks : Kinds) {before after : List ℕ} {n r : ℕ} (p : Puts (kindLetters ks) before after n r) where
+  pub kinds-some : (r ≡ n → ⊥) → Puts (kindField ks) before after n r
+  unfolding kindField
+  kinds-some h = rw (not-empty (kindLetters ks) (λ z. h (omega (arith, p .place)))) p
+
+  pub kinds-none : r ≡ n → {after′ : List ℕ} {m : ℕ} → Puts (0x2D ∷ []) after after′ n m → Puts (kindField ks) before after′ n m
+  unfolding kindField isEmpty
+  kinds-none e q =
+      let none = is-empty (kindLetters ks) (omega (arith, p .place)) in
+      let kept : after ≡ before = p .buffer ∙ rw (none, e) (sym (skipped {before = before} {n = n} (omega (arith, p .room)) .buffer)) in
+      rw none (rw kept at q)
+
+pub field-length : (ks : Kinds) → length (kindField ks) ≤ 4
+unfolding kindField
+field-length ks = go (isEmpty (kindLetters ks))
+  where
+    go : (b : Bool) → length (pick b (0x2D ∷ []) (kindLetters ks)) ≤ 4
+    go true = omega arith
+    go false = letters-length ks
+
+-- ---- the line around the form
+
+pub front-zero : (id : List ℕ) → length (frontOf id 0 0) ≡ length id + 5
+unfolding frontOf decimal decimalBy
+front-zero id = simp length-append (omega arith)
+
+pub before-length : (id : List ℕ) (class : Class) → length (beforeForm id class) ≡ length id + 7
+unfolding beforeForm
+before-length id class = simp length-append (omega (arith, front-zero id))
+
+pub accepted-laid : (id : List ℕ) (class : Class) (form : List ℕ) (ks : Kinds) → answerLine id 0 0 class form ks ≡ beforeForm id class ++ form ++ afterForm ks
+unfolding answerLine beforeForm afterForm frontOf
+accepted-laid id class form ks = simp append-assoc
+
+-- ---- a refusal
+
+pub refused-laid : (id : List ℕ) (number place : ℕ) → refusedAnswer id number place ≡ frontOf id number place ++ (0x2D ∷ 0x09 ∷ 0x2D ∷ 0x09 ∷ 0x2D ∷ 0x0A ∷ [])
+unfolding refusedAnswer answerLine frontOf letter kindField kindLetters isEmpty
+refused-laid id number place = simp append-assoc

@@ -21,11 +21,12 @@ use Rattle.rules.specs.Permits.{Permits}
 use Rattle.rules.specs.Rules.{verdict}
 use Rattle.rules.specs.declared.Verdict.{Verdict}
 use Rattle.ascii.specs.Ascii.{asciiForm}
-use Rattle.names.specs.Calls.{Answers, asciiFormed, asciiRows, AsciiForms}
+use Rattle.names.specs.Calls.{Answers, kindsSaid, asciiFormed, asciiRows, AsciiForms}
 use Rattle.names.specs.declared.AsciiForm.{AsciiForm}
 use Rattle.names.proofs.Answering.{ascii-cleared}
-use Rattle.answer.specs.Answer.{letter, decimal, decimalBy, answerLine, goodAnswer}
-use Rattle.answer.specs.Answers.{frontOf}
+use Rattle.answer.specs.Answer.{answerLine, refusedAnswer, goodAnswer}
+use Rattle.answer.specs.Answers.{beforeForm, afterForm}
+use Rattle.answer.proofs.Pieces.{before-length, accepted-laid}
 
 -- ---- a piece in the middle
 
@@ -66,7 +67,7 @@ told P text = first (asciiRows P text 192)
 abbrev form : Permits → List ℕ → List ℕ
 form P text = asciiForm P (normalForm text)
 
-module _ (P : Permits) (text : List ℕ) {before after : List ℕ} {r : AsciiForm} (A : Answers asciiFormed (asciiRows P text 192) text (form P text) before after r) where
+module _ (P : Permits) (text : List ℕ) {before after : List ℕ} {r : AsciiForm} (A : Answers (asciiFormed P (labels (normalForm text))) (asciiRows P text 192) text (form P text) before after r) where
   says-number : r .number ≡ told P text .number
   unfolding verdict
   says-number = ap (λ (x : AsciiForm). x .number) (A .gives .result)
@@ -87,27 +88,24 @@ module _ (P : Permits) (text : List ℕ) {before after : List ℕ} {r : AsciiFor
 
   module _ (id : List ℕ) where
     with-form : (l : List ℕ) → l ≡ pick (eqb (told P text .number) 0) (form P text) (0x2D ∷ [])
-        → answerLine id (r .number) (r .place) (r .class) l ≡ goodAnswer P id text
+        → answerLine id (r .number) (r .place) (r .class) l (r .kinds) ≡ goodAnswer P id text
     unfolding goodAnswer
     with-form l e =
         let v : Verdict = verdict (told P text) (labels (normalForm text)) in
-        ap (λ (x : AsciiForm). answerLine id (x .number) (x .place) (x .class) l) (A .gives .result)
-        ∙ ap (λ (k : List ℕ). answerLine id (v .number) (v .place) (v .class) k) e
+        ap (λ (x : AsciiForm). answerLine id (x .number) (x .place) (x .class) l (x .kinds)) (A .gives .result)
+        ∙ ap (λ (k : List ℕ). answerLine id (v .number) (v .place) (v .class) k (kindsSaid P (labels (normalForm text)) (v .number))) e
 
-    accepted-line : r .number ≡ 0 → answerLine id 0 0 (r .class) (form P text) ≡ goodAnswer P id text
+    accepted-line : r .number ≡ 0 → answerLine id 0 0 (r .class) (form P text) (r .kinds) ≡ goodAnswer P id text
     accepted-line e =
         let z : told P text .number ≡ 0 = sym says-number ∙ e in
         let w : r .place ≡ 0 = says-place ∙ ap (λ (a : Answer). a .place) (clear (asciiRows P text 192) (ascii-cleared P text 192 z)) in
         rw (e, w) at (with-form (form P text) (rw (eq-eqb (told P text .number) 0 z)))
 
-    refused-line : (r .number ≡ 0 → ⊥) → answerLine id (r .number) (r .place) (r .class) (0x2D ∷ []) ≡ goodAnswer P id text
-    refused-line e = with-form (0x2D ∷ []) (rw (ne-eqb (told P text .number) 0 (λ z. e (says-number ∙ z))))
+    refused-line : (r .number ≡ 0 → ⊥) → refusedAnswer id (r .number) (r .place) ≡ goodAnswer P id text
+    unfolding goodAnswer refusedAnswer verdict kindsSaid
+    refused-line e = rw (says-number, says-place, ne-eqb (told P text .number) 0 (λ z. e (says-number ∙ z)))
 
 -- ---- the line around the form
-
-pub front-zero : (id : List ℕ) → length (frontOf id 0 0) ≡ length id + 5
-unfolding frontOf decimal decimalBy
-front-zero id = simp length-append (omega arith)
 
 -- where the form stands in the line, and the 192 bytes from there on, as they are lent
 abbrev startOf : List ℕ → ℕ
@@ -130,25 +128,24 @@ module _ (P : Permits) (id text out : List ℕ) {after : List ℕ} {r : AsciiFor
   room : length (take k (drop start out)) ≡ 192
   room = omega (arith, length-take-le k (drop start out) (omega (arith, length-drop start out)))
 
-  said : Answers asciiFormed (asciiRows P text 192) text (form P text) (take k (drop start out)) after r
+  said : Answers (asciiFormed P (labels (normalForm text))) (asciiRows P text 192) text (form P text) (take k (drop start out)) after r
   said = rw room at A
 
   pub form-fits : r .length ≤ 192
   form-fits = omega (arith, room, had-room P text said same)
 
-  pub accepted-puts : r .number ≡ 0 → {b₁ b₂ b₃ b₄ : List ℕ} {l i j c n : ℕ} → l ≡ letter (r .class) → Puts (frontOf id 0 0) back b₁ 0 i → Puts (l ∷ []) b₁ b₂ i j
-      → Puts (0x09 ∷ []) b₂ b₃ j c → Puts (0x0A ∷ []) b₃ b₄ (c + r .length) n → Puts (goodAnswer P id text) out b₄ 0 n
-  unfolding answerLine frontOf
-  accepted-puts z {l = l} {c = c} el x y w v =
+  pub accepted-puts : r .number ≡ 0 → {b₁ b₂ : List ℕ} {c n : ℕ} → Puts (beforeForm id (r .class)) back b₁ 0 c → Puts (afterForm (r .kinds)) b₁ b₂ (c + r .length) n
+      → Puts (goodAnswer P id text) out b₂ 0 n
+  accepted-puts z {c = c} x y =
       let f : List ℕ = form P text in
       let all : given (told P text) f ≡ f = given-all (told P text) f (sym (says-number P text said) ∙ z) in
       let long : r .length ≡ length f = says-length P text said ∙ ap length all in
-      let at : c ≡ start = omega (arith, front-zero id, x .place, y .place, w .place) in
+      let at : c ≡ start = omega (arith, before-length id (r .class), x .place) in
       let placed : Puts f out back c (c + r .length) =
       rw (long, at) (put-lent start k out after f (omega arith) (omega (arith, form-fits, long)) (said .gives .buffer ∙ ap (λ (s : List ℕ). written s (take k (drop start out))) all)) in
-      rw (← accepted-line P text said id z, ← el) (then (ahead placed (then (then x y) w)) v)
+      rw (← accepted-line P text said id z, accepted-laid id (r .class) f (r .kinds)) (then (ahead placed x) y)
 
-  pub refused-puts : (r .number ≡ 0 → ⊥) → {b : List ℕ} {n : ℕ} → Puts (answerLine id (r .number) (r .place) (r .class) (0x2D ∷ [])) back b 0 n
+  pub refused-puts : (r .number ≡ 0 → ⊥) → {b : List ℕ} {n : ℕ} → Puts (refusedAnswer id (r .number) (r .place)) back b 0 n
       → Puts (goodAnswer P id text) out b 0 n
   unfolding written
   refused-puts z x =

@@ -6,14 +6,19 @@ use lib.Dec.{eqb, ltb}
 use lib.ListN.{length}
 use Rattle.lists.specs.Tests.{pick}
 use Rattle.lists.specs.Rows.{first}
+use Rattle.characters.specs.Characters.{kindLetter}
+use Rattle.characters.specs.declared.Kind.{Kind}
+use Rattle.characters.specs.declared.Kind.the-variants.{Hiragana, Katakana, Kanji, Sign}
 use Rattle.normal.specs.Normal.{normalForm}
 use Rattle.rules.specs.Labels.{labels}
-use Rattle.rules.specs.Permits.{Permits}
+use Rattle.rules.specs.Permits.{Permits, isEmpty}
+use Rattle.rules.specs.Kinds.{noKinds}
 use Rattle.rules.specs.Rules.{verdict}
+use Rattle.rules.specs.declared.Kinds.{Kinds}
 use Rattle.rules.specs.declared.Class.{Class}
 use Rattle.rules.specs.declared.Class.the-variants.{None, General, Prefecture}
 use Rattle.ascii.specs.Ascii.{asciiForm}
-use Rattle.names.specs.Calls.{asciiRows}
+use Rattle.names.specs.Calls.{asciiRows, kindsSaid}
 use Rattle.unicode.specs.Utf8.{decoded}
 use Rattle.lines.specs.Fields.{idOf, nameOf, oneTab, goodId}
 
@@ -26,7 +31,7 @@ badLine line =
     || (not (goodId (idOf line))
     || not (decoded (nameOf line) .ok)))
 
--- ---- the answer line: id, number, place, class, ASCII form, tab-parted, LF
+-- ---- the answer line: id, number, place, class, ASCII form, and document 02's kinds (K6), tab-parted, LF
 
 -- a number in decimal digits; f bounds how many
 unfoldable pub decimalBy : ℕ → ℕ → List ℕ
@@ -49,22 +54,40 @@ letter General = 0x47
 letter Prefecture = 0x50
 letter None = 0x2D
 
-unfoldable pub answerLine : List ℕ → ℕ → ℕ → Class → List ℕ → List ℕ
-answerLine id number place class form =
+-- a kind's letter where the kind is found
+abbrev pub shown : Bool → Kind → List ℕ
+shown found k = pick found (kindLetter k ∷ []) []
+
+-- H, K, J and S for the kinds that are found, in that order
+unfoldable pub kindLetters : Kinds → List ℕ
+kindLetters ks =
+    shown (ks .hiragana) Hiragana ++ shown (ks .katakana) Katakana ++ shown (ks .kanji) Kanji ++ shown (ks .sign) Sign
+
+-- or -
+unfoldable pub kindField : Kinds → List ℕ
+kindField ks = pick (isEmpty (kindLetters ks)) (0x2D ∷ []) (kindLetters ks)
+
+unfoldable pub answerLine : List ℕ → ℕ → ℕ → Class → List ℕ → Kinds → List ℕ
+answerLine id number place class form ks =
     id ++ (0x09 ∷ []) ++ decimal number ++ (0x09 ∷ []) ++ decimal place ++ (0x09 ∷ [])
-    ++ (letter class ∷ []) ++ (0x09 ∷ []) ++ form ++ (0x0A ∷ [])
+    ++ (letter class ∷ []) ++ (0x09 ∷ []) ++ form ++ (0x09 ∷ []) ++ kindField ks ++ (0x0A ∷ [])
+
+-- class, form and kinds are - with a refusal
+unfoldable pub refusedAnswer : List ℕ → ℕ → ℕ → List ℕ
+refusedAnswer id number place = answerLine id number place None (0x2D ∷ []) noKinds
 
 -- with 16 the id is -
 unfoldable pub badAnswer : List ℕ
-badAnswer = answerLine (0x2D ∷ []) 16 0 None (0x2D ∷ [])
+badAnswer = refusedAnswer (0x2D ∷ []) 16 0
 
--- number and place are those of the whole ASCII form, given room; class and form are - unless the number is 0
+-- number and place are those of the whole ASCII form, given room; class, form and kinds are - unless the number is 0
 unfoldable pub goodAnswer : Permits → List ℕ → List ℕ → List ℕ
 goodAnswer P id text =
     let a = first (asciiRows P text 192) in
-    let v = verdict a (labels (normalForm text)) in
+    let ls = labels (normalForm text) in
+    let v = verdict a ls in
     let form = pick (eqb (a .number) 0) (asciiForm P (normalForm text)) (0x2D ∷ []) in
-    answerLine id (v .number) (v .place) (v .class) form
+    answerLine id (v .number) (v .place) (v .class) form (kindsSaid P ls (v .number))
 
 -- the name that a line holds, as a text
 abbrev pub textOf : List ℕ → List ℕ

@@ -8,12 +8,14 @@ use lib.ListN.{length, take}
 use Rattle.lists.specs.Tests.{pick, anyOf, indexOf}
 use Rattle.lists.specs.Front.{Puts}
 use Rattle.rules.specs.Permits.{Permits}
+use Rattle.rules.specs.declared.Class.{Class}
+use Rattle.rules.specs.declared.Kinds.{Kinds}
 use Rattle.answer.specs.declared.Next.{Next}
 use Rattle.answer.specs.declared.Wrote.{Wrote}
 use Rattle.unicode.specs.Utf8.{decoded}
 use Rattle.lines.specs.Lines.{lf}
 use Rattle.lines.specs.Fields.{goodId}
-use Rattle.answer.specs.Answer.{decimal, badAnswer, goodAnswer}
+use Rattle.answer.specs.Answer.{decimal, letter, kindField, badAnswer, goodAnswer}
 
 -- no answer is longer
 abbrev pub most : ℕ
@@ -39,6 +41,13 @@ pub record AnswersFirst (answer : List ℕ → List ℕ) (s before after : List 
 -- id, number and place, a tab after each: how an answer line begins
 unfoldable pub frontOf : List ℕ → ℕ → ℕ → List ℕ
 frontOf id number place = id ++ (0x09 ∷ []) ++ decimal number ++ (0x09 ∷ []) ++ decimal place ++ (0x09 ∷ [])
+
+-- what stands before the ASCII form of an accepted name, and after it
+unfoldable pub beforeForm : List ℕ → Class → List ℕ
+beforeForm id class = frontOf id 0 0 ++ (letter class ∷ []) ++ (0x09 ∷ [])
+
+unfoldable pub afterForm : Kinds → List ℕ
+afterForm ks = (0x09 ∷ []) ++ kindField ks ++ (0x0A ∷ [])
 
 -- the answer to a line with these two fields
 unfoldable pub fieldsAnswer : Permits → List ℕ → List ℕ → List ℕ

@@ -1,5 +1,5 @@
-// The answer to a line of a batch: id, number, place, class and ASCII form, tab-parted and ended by LF. Each call takes any slices and
-// says all of its result, and writes nothing where it refuses. Its meaning is defined in specs/: Answer; what a call answers and writes
+// The answer to a line of a batch: id, number, place, class, ASCII form and kinds, tab-parted and ended by LF. Each call takes any slices
+// and says all of its result, and writes nothing where it refuses. Its meaning is defined in specs/: Answer; what a call answers and writes
 // in Answers. The usual line has a way of its own (src/usual), and the same answer.
 mod usual;
 
@@ -8,14 +8,16 @@ use lines::Parts;
 use lines::TAB;
 use lines::line_end;
 use rules::Class;
+use rules::Kinds;
 ghost use mathlib.Core.Path.{_≡_};
 ghost use mathlib.Core.List.{[], _∷_};
 ghost use Prim.Native.Nat.{_+_, _≤_, _<_, _%_, min};
 ghost use lib.ListN.{length};
+ghost use Rattle.lists.specs.Tests.{pick};
 ghost use Rattle.lists.specs.Front.{Puts};
 ghost use Rattle.rules.specs.Editions.{todayWith};
-ghost use Rattle.answer.specs.Answer.{decimal, letter, answerLine, badAnswer, goodAnswer, answerTo};
-ghost use Rattle.answer.specs.Answers.{Writes, noLine, AnswersFirst, frontOf, fieldsAnswer};
+ghost use Rattle.answer.specs.Answer.{decimal, letter, kindField, refusedAnswer, badAnswer, goodAnswer, answerTo};
+ghost use Rattle.answer.specs.Answers.{Writes, noLine, AnswersFirst, frontOf, beforeForm, afterForm, fieldsAnswer};
 
 const LF: u8 = 0x0A;
 
@@ -104,24 +106,16 @@ fn put_front(id: &[u8], number: usize, place: usize, out: &mut [u8]) -> usize
     put_byte(out, e, TAB)
 }
 
-// Puts an answer line at the start of out.
-fn put_line(
-    id: &[u8],
-    number: usize,
-    place: usize,
-    class: Class,
-    form: &[u8],
-    out: &mut [u8],
-) -> usize
-    requires { ⌜ length (now id) + length (now form) + 12 ≤ length (now out) ⌝ }
-    ensures { λ r. ⌜ Puts (answerLine (now (id .entry)) number place class (now (form .entry))) (now (out .entry)) (now (out .exit)) 0 r ⌝ }
+// What follows the place in the answer to a refusal: no class, no form, no kinds.
+const REFUSED: [u8; 6] = [HYPHEN, TAB, HYPHEN, TAB, HYPHEN, LF];
+
+// Puts the answer to a refusal at the start of out.
+fn put_refused(id: &[u8], number: usize, place: usize, out: &mut [u8]) -> usize
+    requires { ⌜ length (now id) + 15 ≤ length (now out) ⌝ }
+    ensures { λ r. ⌜ Puts (refusedAnswer (now (id .entry)) number place) (now (out .entry)) (now (out .exit)) 0 r ⌝ }
 {
-    let letter = class_letter(class);
     let a = put_front(id, number, place, out);
-    let b = put_byte(out, a, letter);
-    let c = put_byte(out, b, TAB);
-    let d = put(out, c, form);
-    put_byte(out, d, LF)
+    put(out, a, &REFUSED)
 }
 
 // Puts the answer to a bad line.
@@ -130,7 +124,54 @@ fn put_bad(out: &mut [u8]) -> usize
     ensures { λ r. ⌜ Puts badAnswer (now (out .entry)) (now (out .exit)) 0 r ⌝ }
 {
     let none = [HYPHEN];
-    put_line(&none, 16, 0, Class::None, &none, out)
+    put_refused(&none, 16, 0, out)
+}
+
+// Puts a kind's letter where the kind is found.
+fn put_found(out: &mut [u8], n: usize, found: bool, letter: u8) -> usize
+    requires { ⌜ n < length (now out) ⌝ }
+    ensures { λ r. ⌜ Puts (pick found (letter ∷ []) []) (now (out .entry)) (now (out .exit)) n r ⌝ }
+{
+    if found {
+        return put_byte(out, n, letter);
+    }
+    n
+}
+
+// Puts the letters of the kinds that are found, or a hyphen.
+fn put_kinds(out: &mut [u8], n: usize, kinds: Kinds) -> usize
+    requires { ⌜ n + 4 ≤ length (now out) ⌝ }
+    ensures { λ r. ⌜ Puts (kindField kinds) (now (out .entry)) (now (out .exit)) n r ⌝ }
+{
+    let a = put_found(out, n, kinds.hiragana, 0x48);
+    let b = put_found(out, a, kinds.katakana, 0x4B);
+    let c = put_found(out, b, kinds.kanji, 0x4A);
+    let d = put_found(out, c, kinds.sign, 0x53);
+    if d == n {
+        return put_byte(out, n, HYPHEN);
+    }
+    d
+}
+
+// Puts what stands before the ASCII form of an accepted name, at the start of out.
+fn put_accepted(id: &[u8], class: Class, out: &mut [u8]) -> usize
+    requires { ⌜ length (now id) + 11 ≤ length (now out) ⌝ }
+    ensures { λ r. ⌜ Puts (beforeForm (now (id .entry)) class) (now (out .entry)) (now (out .exit)) 0 r ⌝ }
+{
+    let letter = class_letter(class);
+    let a = put_front(id, 0, 0, out);
+    let b = put_byte(out, a, letter);
+    put_byte(out, b, TAB)
+}
+
+// Puts what stands after it.
+fn put_end(out: &mut [u8], n: usize, kinds: Kinds) -> usize
+    requires { ⌜ n + 6 ≤ length (now out) ⌝ }
+    ensures { λ r. ⌜ Puts (afterForm kinds) (now (out .entry)) (now (out .exit)) n r ⌝ }
+{
+    let a = put_byte(out, n, TAB);
+    let b = put_kinds(out, a, kinds);
+    put_byte(out, b, LF)
 }
 
 // Puts the answer to a line with this id and this text as its name. The form goes straight to its place.
@@ -142,17 +183,12 @@ pub(crate) fn put_text(kanji: &[u32], id: &[u8], text: &[u32], out: &mut [u8]) -
     let end = start + 192;
     let form = names::to_ascii_with(kanji, text, &mut out[start..end]);
     let number = form.number as usize;
-    let class = form.class;
-    if number == 0 {
-        let letter = class_letter(class);
-        let a = put_front(id, 0, 0, out);
-        let b = put_byte(out, a, letter);
-        let c = put_byte(out, b, TAB);
-        let d = c + form.length;
-        return put_byte(out, d, LF);
+    if number != 0 {
+        return put_refused(id, number, form.place, out);
     }
-    let none = [HYPHEN];
-    put_line(id, number, form.place, class, &none, out)
+    let class = form.class;
+    let a = put_accepted(id, class, out);
+    put_end(out, a + form.length, form.kinds)
 }
 
 // A name is lent up to 257 code points: with more than 256 the rules look no further.

@@ -47,9 +47,6 @@ module _ (P : Permits) (stretch : InStretch P) (l : List ℕ) where
       go true p = any-weaker (jaChar P) high (japanese-high P stretch) l p
       go false p = k p
 
-  pub high-fit : allOf (labelChar P) l ≡ true → anyOf high l ≡ isJapanese P l
-  high-fit a = high-is (ascii-low P l a)
-
 -- ---- of at most 63 characters where it is not coded
 
 pub label-writable : (P : Permits) (l : List ℕ) → allOf (labelChar P) l ≡ true → (isJapanese P l ≡ false → length l ≤ 63) → writable P l ≡ true

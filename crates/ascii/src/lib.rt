@@ -27,7 +27,7 @@ pub struct LabelForm {
 }
 
 // Does it hold a code point of 80 or more? Of what may stand in a label those are the Japanese characters.
-pub fn any_high(label: &[u32]) -> bool
+fn any_high(label: &[u32]) -> bool
     ensures { λ r. ⌜ r ≡ anyOf high (now (label .entry)) ⌝ }
 {
     let mut i = 0;

@@ -2,7 +2,7 @@
 -- and that has this length.
 -- Assumes nothing.
 use mathlib.Core.Path.{_≡_, refl, sym, ap, _∙_}
-use mathlib.Core.Bool.{Bool, true, false, _||_}
+use mathlib.Core.Bool.{Bool, true, false, _||_, or-true, or-false}
 use mathlib.Core.List.{List, [], _∷_, _++_}
 use mathlib.Core.Logic.{⊎-elim}
 use Prim.Native.Nat.{ℕ, zero, suc, _+_, _≤_}
@@ -13,7 +13,7 @@ use borrow.Author.Tests.{eqb-true, eqb-false}
 use Rattle.lists.specs.Tests.{pick, within, anyOf, elem, above, rising}
 use Rattle.lists.proofs.Laws.{any-append, inside, outside, lt-or-le}
 use Rattle.characters.specs.Kanji.{kanji}
-use Rattle.characters.specs.Characters.{hiragana, katakana, signs, japaneseBy, japanese}
+use Rattle.characters.specs.Characters.{kinds, signs, stretch, japaneseBy, japanese}
 
 -- n numbers from a on
 unfoldable pub run : ℕ → ℕ → List ℕ
@@ -91,10 +91,11 @@ module _ (c : ℕ) where
       let e : suc a + n ≡ a + suc n = omega arith in
       ap (λ (z : Bool). eqb c a || z) (in-run (suc a) n ∙ ap (λ (b : ℕ). within (suc a) b c) e) ∙ grow a (a + suc n) (omega arith)
 
-  regroup : (h k s z : Bool) → (h || (k || s)) || z ≡ h || (k || (s || z))
+  regroup : (h k s z : Bool) → (h || (k || s)) || z ≡ h || (k || (z || (s || false)))
   regroup true k s z = refl
   regroup false true s z = refl
-  regroup false false s z = refl
+  regroup false false true z = sym (or-true z)
+  regroup false false false z = sym (or-false z)
 
   others : elem c (run 0x3041 83 ++ (run 0x30A1 86 ++ signs)) ≡ within 0x3041 0x3093 c || (within 0x30A1 0x30F6 c || elem c signs)
   unfolding elem
@@ -103,7 +104,7 @@ module _ (c : ℕ) where
       ∙ rw (any-append (eqb c) (run 0x30A1 86) signs, in-run 0x3041 82, in-run 0x30A1 85)
 
   pub members : elem c inOrder ≡ japanese c
-  unfolding inOrder japanese japaneseBy hiragana katakana
+  unfolding inOrder japanese japaneseBy kinds stretch anyOf
   members =
       in-all (run 0x3041 83 ++ (run 0x30A1 86 ++ signs)) kanji ∙ ap (λ (x : Bool). x || elem c kanji) others
       ∙ regroup (within 0x3041 0x3093 c) (within 0x30A1 0x30F6 c) (elem c signs) (elem c kanji)

@@ -10,7 +10,7 @@ use Rattle.lists.proofs.Laws.{in-table, in-range, clash}
 use Rattle.lists.proofs.Rising.{rises}
 use Rattle.characters.specs.Kanji.{kanji}
 use Rattle.characters.specs.KanjiBits.{kanjiBits}
-use Rattle.characters.specs.Characters.{japaneseBy, japanese, bitSet, kanjiWith, japaneseWith}
+use Rattle.characters.specs.Characters.{kinds, stretch, kindAmong, kindBy, kind, bitSet, kanjiWith, kindWith}
 use Rattle.characters.proofs.Bits.{numbered, unpacked, in-unpacked}
 
 pub kanji-length : length kanji ≡ 6355
@@ -31,7 +31,7 @@ unfolding kanji elem anyOf
 no-sign = refl
 
 -- all from 4E00 to 9FA0
-kanji-within : allOf (within 0x4E00 0x9FA0) kanji ≡ true
+pub kanji-within : allOf (within 0x4E00 0x9FA0) kanji ≡ true
 unfolding kanji allOf within
 kanji-within = refl
 
@@ -54,6 +54,6 @@ same-kanji c = go (within 0x4E00 0x9FA0 c) refl (elem c kanji) refl
     go false p true q = clash (in-table (within 0x4E00 0x9FA0) c kanji kanji-within q) p
     go false p false q = rw p (sym q)
 
-pub lent : (c : ℕ) → japaneseWith kanjiBits c ≡ japanese c
-unfolding japaneseBy japanese japaneseWith
+pub lent : (c : ℕ) → kindWith kanjiBits c ≡ kind c
+unfolding kindBy kind kindWith kinds kindAmong stretch
 lent c = rw (same-kanji c)

@@ -1,7 +1,8 @@
 pub mod Ranges
 pub mod Classes
-pub mod Bounds
 pub mod Bits
 pub mod Lent
+pub mod OneKind
+pub mod Bounds
 pub mod Pairs
 pub mod Count

@@ -1,11 +1,13 @@
 -- Which code point is what: document 01, 'Characters'. A code point is any 32-bit number.
-use mathlib.Core.Bool.{Bool, _&&_, _||_}
+use mathlib.Core.Bool.{Bool, true, false, _&&_, _||_}
 use mathlib.Core.List.{List, [], _∷_}
 use Prim.Native.Nat.{ℕ, _-_, _/_, _%_, _^_}
 use lib.Dec.{eqb}
 use lib.ListN.{getD}
-use Rattle.lists.specs.Tests.{within, elem}
+use Rattle.lists.specs.Tests.{pick, within, anyOf, elem}
 use Rattle.characters.specs.Kanji.{kanji}
+use Rattle.characters.specs.declared.Kind.{Kind}
+use Rattle.characters.specs.declared.Kind.the-variants.{Hiragana, Katakana, Kanji, Sign, None}
 
 -- ASCII set: letters, digits, hyphen 2D. Letters are in lower case, as the normal form has them
 unfoldable pub alnum : ℕ → Bool
@@ -17,19 +19,55 @@ hyphen c = eqb c 0x2D
 unfoldable pub asciiSet : ℕ → Bool
 asciiSet c = alnum c || hyphen c
 
--- Japanese characters: 3041 to 3093, 30A1 to 30F6, ten signs of row 1, the kanji
-unfoldable pub hiragana : ℕ → Bool
-hiragana c = within 0x3041 0x3093 c
+-- ---- Japanese characters, and the kind of each: document 02, K6
 
-unfoldable pub katakana : ℕ → Bool
-katakana c = within 0x30A1 0x30F6 c
+-- document 02's letter of each kind: H, K, J, S, and - for none
+unfoldable pub kindLetter : Kind → ℕ
+kindLetter Hiragana = 0x48
+kindLetter Katakana = 0x4B
+kindLetter Kanji = 0x4A
+kindLetter Sign = 0x53
+kindLetter None = 0x2D
+
+-- the four kinds, in its order
+unfoldable pub kinds : List Kind
+kinds = Hiragana ∷ Katakana ∷ Kanji ∷ Sign ∷ []
 
 unfoldable pub signs : List ℕ
 signs = 0x30FB ∷ 0x30FD ∷ 0x30FE ∷ 0x309D ∷ 0x309E ∷ 0x4EDD ∷ 0x3005 ∷ 0x3006 ∷ 0x3007 ∷ 0x30FC ∷ []
 
--- over which code points are kanji
+-- the stretch of each kind: 3041 to 3093, 30A1 to 30F6, the kanji, ten signs of row 1; over which code points are kanji
+unfoldable pub stretch : (ℕ → Bool) → Kind → ℕ → Bool
+stretch isKanji Hiragana c = within 0x3041 0x3093 c
+stretch isKanji Katakana c = within 0x30A1 0x30F6 c
+stretch isKanji Kanji c = isKanji c
+stretch isKanji Sign c = elem c signs
+stretch isKanji None c = false
+
+-- the first of these kinds whose stretch holds c, and none where there is no such kind
+unfoldable pub kindAmong : (ℕ → Bool) → List Kind → ℕ → Kind
+kindAmong isKanji [] c = None
+kindAmong isKanji (k ∷ ks) c = pick (stretch isKanji k c) k (kindAmong isKanji ks c)
+
+unfoldable pub kindBy : (ℕ → Bool) → ℕ → Kind
+kindBy isKanji c = kindAmong isKanji kinds c
+
+-- the kind of a code point; no stretch holds what another holds (proofs/OneKind), so the order of the kinds is of no matter
+unfoldable pub kind : ℕ → Kind
+kind c = kindBy (λ x. elem x kanji) c
+
+-- any but none
+unfoldable pub anyKind : Kind → Bool
+anyKind Hiragana = true
+anyKind Katakana = true
+anyKind Kanji = true
+anyKind Sign = true
+anyKind None = false
+
+-- the Japanese characters, as document 01 lists them: those of the four stretches. They are those of any kind but none
+-- (proofs/OneKind)
 unfoldable pub japaneseBy : (ℕ → Bool) → ℕ → Bool
-japaneseBy isKanji c = hiragana c || (katakana c || (elem c signs || isKanji c))
+japaneseBy isKanji c = anyOf (λ (k : Kind). stretch isKanji k c) kinds
 
 unfoldable pub japanese : ℕ → Bool
 japanese c = japaneseBy (λ x. elem x kanji) c
@@ -38,10 +76,11 @@ japanese c = japaneseBy (λ x. elem x kanji) c
 abbrev pub bitSet : ℕ → ℕ → Bool
 bitSet w k = eqb (w / 2 ^ k % 2) 1
 
--- the same, of a table that is lent for the kanji: one bit for each code point from 4E00 to 9FA0, 32 to a word; where
--- the table is too short it has none. Of the bits of the kanji themselves it is `japanese` (proofs/Lent)
+-- a table that is lent for the kanji: one bit for each code point from 4E00 to 9FA0, 32 to a word; where the table is
+-- too short it has none
 unfoldable pub kanjiWith : List ℕ → ℕ → Bool
 kanjiWith table c = within 0x4E00 0x9FA0 c && bitSet (getD table ((c - 0x4E00) / 32) 0) ((c - 0x4E00) % 32)
 
-unfoldable pub japaneseWith : List ℕ → ℕ → Bool
-japaneseWith table c = japaneseBy (kanjiWith table) c
+-- the kind of a code point by such a table; by the bits of the kanji themselves it is `kind` (proofs/Lent)
+unfoldable pub kindWith : List ℕ → ℕ → Kind
+kindWith table c = kindBy (kanjiWith table) c

@@ -1,8 +1,10 @@
--- Closed examples of document 01, 'Normal form', and of document 02, K2, by computation.
+-- Closed examples of document 01, 'Normal form', and of document 02, K2 and K6, by computation.
 use mathlib.Core.Path.{_≡_, refl}
 use mathlib.Core.List.{[], _∷_, map}
 use Prim.Native.Nat.{ℕ}
 use Rattle.lists.specs.Tests.{within, anyOf, elem}
+use Rattle.characters.specs.Kanji.{kanji}
+use Rattle.characters.specs.Characters.{kindLetter, kinds, signs, stretch, kindAmong, kindBy, kind}
 use Rattle.characters.specs.Replace.{ranges, rangeIn, halfKana, isHalf, replaceIn, replace}
 use Rattle.characters.specs.Compose.{voiced, repeats, halfVoiced, eitherKana, composed}
 
@@ -39,3 +41,19 @@ pub apart : composed 0x3046 0x309B ∷ composed 0x30D0 0x309C ∷ composed 0x30A
     ≡ 0 ∷ 0 ∷ 0 ∷ 0 ∷ []
 unfolding voiced repeats halfVoiced eitherKana composed elem anyOf
 apart = refl
+
+-- ---- the kinds: document 02, K6
+
+-- by their letters: the ends of each stretch; 4EDD, which lies among the kanji; the prolonged sound mark, the middle dot
+-- and the repeat signs beside the kana; what is beside them and is none
+pub kinds-of :
+    map (λ (c : ℕ). kindLetter (kind c))
+    (0x3041 ∷ 0x3093 ∷ 0x30A1 ∷ 0x30F6 ∷ 0x4E00 ∷ 0x9FA0 ∷ 0x4EDD ∷ 0x30FC ∷ 0x30FB ∷ 0x309D ∷ 0x30FD ∷ 0x3007 ∷ [])
+    ≡ 0x48 ∷ 0x48 ∷ 0x4B ∷ 0x4B ∷ 0x4A ∷ 0x4A ∷ 0x53 ∷ 0x53 ∷ 0x53 ∷ 0x53 ∷ 0x53 ∷ 0x53 ∷ []
+unfolding kindLetter kinds signs stretch kindAmong kindBy kind kanji within anyOf elem
+kinds-of = refl
+
+pub no-kinds-of : map (λ (c : ℕ). kindLetter (kind c)) (0x3040 ∷ 0x3094 ∷ 0x30A0 ∷ 0x30F7 ∷ 0x3003 ∷ 0x61 ∷ 0xFF71 ∷ [])
+    ≡ 0x2D ∷ 0x2D ∷ 0x2D ∷ 0x2D ∷ 0x2D ∷ 0x2D ∷ 0x2D ∷ []
+unfolding kindLetter kinds signs stretch kindAmong kindBy kind kanji within anyOf elem
+no-kinds-of = refl

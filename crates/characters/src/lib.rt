@@ -1,4 +1,4 @@
-// Which code point is what: Japanese or not, what replaces it, and what a base and a mark become.
+// Which code point is what: Japanese and of which kind, what replaces it, and what a base and a mark become.
 // Each call takes any 32-bit number and any lent table, and says all of its result. Its meaning is defined in specs/:
 // Characters, Replace, Compose. A call `.._with` is lent the table of kanji, so that a program names that table once: `kanji_bits` gives it, and
 // says which it is.
@@ -10,7 +10,7 @@ ghost use Prim.Native.Nat.{_+_, _<_};
 ghost use lib.Dec.{ltb};
 ghost use lib.ListN.{getD};
 ghost use Rattle.lists.specs.Tests.{pick, within, elem};
-ghost use Rattle.characters.specs.Characters.{alnum, asciiSet, signs, japanese, bitSet, kanjiWith, japaneseWith};
+ghost use Rattle.characters.specs.Characters.{alnum, asciiSet, signs, kind, anyKind, bitSet, kanjiWith, kindWith};
 ghost use Rattle.characters.specs.KanjiBits.{kanjiBits};
 ghost use Rattle.characters.specs.Replace.{halfKana, classOf, replace};
 ghost use Rattle.characters.specs.Compose.{composed};
@@ -91,27 +91,52 @@ fn is_kanji(kanji: &[u32], c: u32) -> bool
     false
 }
 
-// A Japanese character, by a lent table of kanji? The signs come last, being the rarest.
-pub fn is_japanese_with(kanji: &[u32], c: u32) -> bool
-    ensures { λ r. ⌜ r ≡ japaneseWith (now (kanji .entry)) c ⌝ }
+// The kind of a Japanese character, and none for any other code point.
+pub enum Kind {
+    Hiragana,
+    Katakana,
+    Kanji,
+    Sign,
+    None,
+}
+
+// The kind of a code point, by a lent table of kanji. The kanji come first, being the most, and the signs last.
+pub fn kind_with(kanji: &[u32], c: u32) -> Kind
+    ensures { λ r. ⌜ r ≡ kindWith (now (kanji .entry)) c ⌝ }
 {
+    if is_kanji(kanji, c) {
+        return Kind::Kanji;
+    }
     if between(0x3041, 0x3093, c) {
-        return true;
+        return Kind::Hiragana;
     }
     if between(0x30A1, 0x30F6, c) {
-        return true;
+        return Kind::Katakana;
     }
-    if is_kanji(kanji, c) {
-        return true;
+    if is_sign(c) {
+        return Kind::Sign;
     }
-    is_sign(c)
+    Kind::None
 }
 
 // The same by the kanji of this edition, for a single code point; who asks of many lends the table.
-pub fn is_japanese(c: u32) -> bool
-    ensures { λ r. ⌜ r ≡ japanese c ⌝ }
+pub fn kind_of(c: u32) -> Kind
+    ensures { λ r. ⌜ r ≡ kind c ⌝ }
 {
-    is_japanese_with(&KANJI, c)
+    kind_with(&KANJI, c)
+}
+
+// Japanese, which is any kind but none?
+pub fn is_japanese(kind: Kind) -> bool
+    ensures { λ r. ⌜ r ≡ anyKind kind ⌝ }
+{
+    match kind {
+        Kind::Hiragana => true,
+        Kind::Katakana => true,
+        Kind::Kanji => true,
+        Kind::Sign => true,
+        Kind::None => false,
+    }
 }
 
 // The replacement class of a code point.

@@ -1,10 +1,12 @@
--- The batch by example, computed: document 01's input, and what the program prints for it.
+-- The batch by example, computed: document 01's input, and what the program prints for it, with the sixth field of
+-- document 02, K6.
 use mathlib.Core.Path.{_≡_, refl}
 use mathlib.Core.List.{List, [], _∷_, _++_}
 use Prim.Native.Nat.{ℕ}
 use Rattle.lists.specs.Rows.{first}
 use Rattle.lists.specs.Tests.{within, allOf, anyOf, indexOf, elem, same}
-use Rattle.characters.specs.Characters.{hyphen, asciiSet, hiragana, katakana, signs, japaneseBy, japanese}
+use Rattle.characters.specs.Characters.{hyphen, asciiSet, kindLetter, kinds, signs, stretch, kindAmong, kindBy, kind}
+use Rattle.characters.specs.Characters.{anyKind}
 use Rattle.characters.specs.Compose.{voiced, repeats, halfVoiced, eitherKana, composed}
 use Rattle.characters.specs.Kanji.{kanji}
 use Rattle.characters.specs.Replace.{ranges, rangeIn, halfKana, isHalf, replaceIn, replace}
@@ -16,16 +18,18 @@ use Rattle.punycode.specs.Punycode.{extended, encode, ace, ldh, wide, allowed, 
 use Rattle.rules.specs.Editions.{today}
 use Rattle.rules.specs.Labels.{period, intoFirst, labels, join}
 use Rattle.rules.specs.Permits.{jaChar, labelChar, middle, isEmpty}
+use Rattle.rules.specs.Kinds.{sameKind, found, kindsIn}
 use Rattle.rules.specs.Prefectures.{prefectures}
 use Rattle.rules.specs.Rules.{unfit, middleDot, ordinary, isJapanese, beginsWithHyphen}
 use Rattle.rules.specs.Rules.{endsWithHyphen, hyphenEdge, short, long, hyphenPair, pretends, bareDot}
 use Rattle.rules.specs.Rules.{labelRows, jp, nameRows, frontRows, textRows, verdict}
 use Rattle.ascii.specs.Ascii.{asciiLabel, asciiForm, uncoded}
-use Rattle.names.specs.Calls.{asciiRows}
+use Rattle.names.specs.Calls.{asciiRows, kindsSaid}
 use Rattle.unicode.specs.Utf8.{scalar, proper, decodeFrom}
 use Rattle.lines.specs.Lines.{lf, linesFrom, lines}
 use Rattle.lines.specs.Fields.{tab, idOf, nameOf, oneTab, idByte, goodId}
-use Rattle.answer.specs.Answer.{badLine, decimalBy, decimal, letter, answerLine, goodAnswer, answerTo}
+use Rattle.answer.specs.Answer.{badLine, decimalBy, decimal, letter, kindLetters, kindField, answerLine}
+use Rattle.answer.specs.Answer.{goodAnswer, answerTo}
 use Rattle.batch.specs.Batch.{answers, batch}
 
 pub input : List ℕ
@@ -37,21 +41,22 @@ input =
 pub output : List ℕ
 output =
     (0x61 ∷ 0x31 ∷ 0x09 ∷ 0x30 ∷ 0x09 ∷ 0x30 ∷ 0x09 ∷ 0x47 ∷ 0x09 ∷ []) ++
-    (0x61 ∷ 0x62 ∷ 0x63 ∷ 0x2E ∷ 0x6A ∷ 0x70 ∷ 0x0A ∷ []) ++
-    (0x61 ∷ 0x32 ∷ 0x09 ∷ 0x38 ∷ 0x09 ∷ 0x30 ∷ 0x09 ∷ 0x2D ∷ 0x09 ∷ 0x2D ∷ 0x0A ∷ []) ++
+    (0x61 ∷ 0x62 ∷ 0x63 ∷ 0x2E ∷ 0x6A ∷ 0x70 ∷ 0x09 ∷ 0x2D ∷ 0x0A ∷ []) ++
+    (0x61 ∷ 0x32 ∷ 0x09 ∷ 0x38 ∷ 0x09 ∷ 0x30 ∷ 0x09 ∷ 0x2D ∷ 0x09 ∷ 0x2D ∷ 0x09 ∷ 0x2D ∷ 0x0A ∷ []) ++
     (0x61 ∷ 0x33 ∷ 0x09 ∷ 0x30 ∷ 0x09 ∷ 0x30 ∷ 0x09 ∷ 0x50 ∷ 0x09 ∷ []) ++
     (0x78 ∷ 0x6E ∷ 0x2D ∷ 0x2D ∷ 0x6C ∷ 0x38 ∷ 0x6A ∷ 0x2E ∷ []) ++
-    (0x74 ∷ 0x6F ∷ 0x6B ∷ 0x79 ∷ 0x6F ∷ 0x2E ∷ 0x6A ∷ 0x70 ∷ 0x0A ∷ [])
+    (0x74 ∷ 0x6F ∷ 0x6B ∷ 0x79 ∷ 0x6F ∷ 0x2E ∷ 0x6A ∷ 0x70 ∷ 0x09 ∷ 0x48 ∷ 0x0A ∷ [])
 
 pub printed : batch (answerTo today) input ≡ output
 unfolding input output first within allOf anyOf indexOf elem same Rattle.characters.specs.Characters.alnum hyphen
-    asciiSet hiragana katakana signs japaneseBy japanese voiced repeats halfVoiced eitherKana composed kanji ranges
+    asciiSet kindLetter kinds signs stretch kindAmong kindBy kind anyKind voiced repeats halfVoiced eitherKana composed kanji ranges
     rangeIn Rattle.characters.specs.Replace.classOf halfKana isHalf replaceIn replace replacedFrom compose
     normalPlaced normalForm places coderNumber digit adaptLoop damped adapt threshold varint add emit point points
     nearer least passes below delimiter initial extended encode ace Rattle.punycode.specs.Punycode.alnum ldh wide
     allowed encodable middle today period intoFirst labels join jaChar labelChar isEmpty prefectures unfit
     middleDot ordinary isJapanese beginsWithHyphen endsWithHyphen hyphenEdge short long hyphenPair pretends bareDot
     labelRows jp nameRows frontRows textRows Rattle.rules.specs.Rules.classOf verdict asciiLabel asciiForm uncoded
-    asciiRows tab idOf nameOf oneTab idByte goodId badLine decimalBy decimal letter answerLine goodAnswer answerTo lf
+    asciiRows tab idOf nameOf oneTab idByte goodId badLine decimalBy decimal letter sameKind found kindsIn kindsSaid
+    kindLetters kindField answerLine goodAnswer answerTo lf
     linesFrom lines answers batch scalar proper decodeFrom
 printed = refl

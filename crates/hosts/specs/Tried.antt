@@ -9,8 +9,8 @@ use Rattle.lists.specs.Tests.{within, allOf, anyOf, indexOf, elem}
 use Rattle.lists.specs.Rows.{Row, accepted, first, without}
 use Rattle.lists.specs.declared.Answer.{Answer}
 use Rattle.characters.specs.KanjiBits.{kanjiBits}
-use Rattle.characters.specs.Characters.{alnum, hyphen, asciiSet, hiragana, katakana, signs, japaneseBy, kanjiWith}
-use Rattle.characters.specs.Characters.{japaneseWith}
+use Rattle.characters.specs.Characters.{alnum, hyphen, asciiSet, kinds, signs, stretch, kindAmong, kindBy, anyKind}
+use Rattle.characters.specs.Characters.{kanjiWith, kindWith}
 use Rattle.characters.specs.Replace.{ranges, rangeIn, halfKana, isHalf, replaceIn, replace}
 use Rattle.characters.specs.Compose.{voiced, repeats, halfVoiced, eitherKana, composed}
 use Rattle.normal.specs.Normal.{replacedFrom, compose, normalPlaced, normalForm, places}
@@ -165,11 +165,11 @@ table =
     []
 
 pub tried : map (said (todayWith kanjiBits)) table ≡ map meant table
-unfolding within allOf anyOf indexOf elem first without alnum hyphen asciiSet hiragana katakana signs japaneseBy
-    kanjiWith japaneseWith ranges rangeIn halfKana isHalf replaceIn replace voiced repeats halfVoiced eitherKana
-    composed replacedFrom compose normalPlaced normalForm places digit adaptLoop damped adapt threshold varint add emit
-    point points nearer least passes below delimiter initial extended encode ace Puny.alnum ldh wide allowed encodable
-    coderNumber period intoFirst labels join jaChar labelChar isEmpty unfit middleDot ordinary isJapanese
+unfolding within allOf anyOf indexOf elem first without alnum hyphen asciiSet kinds signs stretch kindAmong kindBy
+    anyKind kanjiWith kindWith ranges rangeIn halfKana isHalf replaceIn replace voiced repeats halfVoiced eitherKana
+    composed replacedFrom compose normalPlaced normalForm places digit adaptLoop damped adapt threshold varint add
+    emit point points nearer least passes below delimiter initial extended encode ace Puny.alnum ldh wide allowed
+    encodable coderNumber period intoFirst labels join jaChar labelChar isEmpty unfit middleDot ordinary isJapanese
     beginsWithHyphen endsWithHyphen hyphenEdge short long hyphenPair pretends bareDot labelRows frontRows eachRows
     hostRows hostTextRows todayWith asciiLabel asciiForm uncoded codedRows rows hostRules callRows inTurn halfGa
 tried = refl

@@ -1,1 +1,2 @@
 pub mod OfLabel
+pub mod Holding

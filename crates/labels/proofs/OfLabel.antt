@@ -13,7 +13,8 @@ use Rattle.lists.specs.Rows.{row, first}
 use Rattle.lists.specs.declared.Answer.{Answer}
 use Rattle.lists.proofs.Laws.{or-left, or-right, clash, any-weaker}
 use Rattle.lists.proofs.Tables.{clear, hit, passed-over}
-use Rattle.characters.specs.Characters.{asciiSet, hyphen, hiragana, katakana, signs, japaneseBy, kanjiWith, japaneseWith}
+use Rattle.characters.specs.Characters.{asciiSet, hyphen, kinds, signs, stretch, kindAmong, kindBy, anyKind, kanjiWith, kindWith}
+use Rattle.characters.specs.declared.Kind.{Kind}
 use Rattle.characters.proofs.Bounds.{with-below}
 use Rattle.rules.specs.Labels.{period}
 use Rattle.rules.specs.Permits.{Permits, jaChar, labelChar}
@@ -30,17 +31,17 @@ module _ (table : List ℕ) (c : ℕ) where
   unfolding jaChar todayWith
   ja-low h = sym (with-below table c h)
 
-  pub ja-high : {j : Bool} → j ≡ japaneseWith table c → j ≡ jaChar (todayWith table) c
+  pub ja-high : {k : Kind} {j : Bool} → k ≡ kindWith table c → j ≡ anyKind k → j ≡ jaChar (todayWith table) c
   unfolding jaChar todayWith
-  ja-high e = e
+  ja-high e q = q ∙ ap anyKind e
 
   pub in-ascii : {a : Bool} → c < 0x80 → a ≡ asciiSet c → a ≡ labelChar (todayWith table) c
   unfolding labelChar
   in-ascii h e = e ∙ rw (← ja-low (omega arith))
 
-  pub in-japanese : {j : Bool} → 0x80 ≤ c → j ≡ japaneseWith table c → j ≡ labelChar (todayWith table) c
+  pub in-japanese : {k : Kind} {j : Bool} → 0x80 ≤ c → k ≡ kindWith table c → j ≡ anyKind k → j ≡ labelChar (todayWith table) c
   unfolding labelChar
-  in-japanese {j} h e = ja-high e ∙ go (asciiSet c) refl
+  in-japanese h e q = ja-high e q ∙ go (asciiSet c) refl
     where
       go : (a : Bool) → asciiSet c ≡ a → jaChar (todayWith table) c ≡ jaChar (todayWith table) c || asciiSet c
       go true p = absurd (let r = ascii-range c p in omega arith)
@@ -158,7 +159,7 @@ ascii-refused j f = rw f
 
 -- the middle dot is Japanese, whatever table is lent
 pub lent-dot : (table : List ℕ) → jaChar (todayWith table) 0x30FB ≡ true
-unfolding jaChar todayWith japaneseWith japaneseBy hiragana katakana kanjiWith elem anyOf signs within
+unfolding jaChar todayWith kindWith kinds stretch kindAmong kindBy anyKind kanjiWith elem anyOf signs within
 lent-dot table = refl
 
 -- so an ASCII label has none, and of a label that is what it is taken for the rows are the table's

@@ -1,7 +1,15 @@
 // One label of a normal form: where it ends, what may stand in it, and what rules 7 to 10 and 17 say of it, for every family of names.
 // Each call takes any slice and says all of its result. Its meaning is defined in `rules` (specs/Labels, Permits, Rules), and where a call
 // is told whether the label is Japanese, here in specs/Known.
+mod kinds;
+
+use characters::is_ascii;
+use characters::is_japanese;
+use characters::kind_with;
+pub use kinds::any_kind;
+pub use kinds::held_with;
 use lists::Answer;
+use rules::Kinds;
 ghost use mathlib.Core.Path.{_≡_};
 ghost use mathlib.Core.Bool.{not, _&&_, _||_};
 ghost use Prim.Native.Nat.{_+_};
@@ -34,6 +42,12 @@ const HYPHEN: u32 = 0x2D;
 
 const MIDDLE_DOT: u32 = 0x30FB;
 
+// What a label holds: whether it may hold all of its characters, and, where it may, which kinds of Japanese ones are found.
+pub struct Held {
+    pub fit: bool,
+    pub kinds: Kinds,
+}
+
 // The index of the first period from `from` on, or the length; `from` itself where it is past the end.
 pub fn label_end(text: &[u32], from: usize) -> usize
     ensures { λ r. ⌜ r ≡ from + indexOf period (drop from (now (text .entry))) ⌝ }
@@ -55,7 +69,7 @@ fn is_ja(kanji: &[u32], c: u32) -> bool
     if c < 0x3003 {
         return false;
     }
-    characters::is_japanese_with(kanji, c)
+    is_japanese(kind_with(kanji, c))
 }
 
 // May a label hold c? The ASCII set stands below 80.
@@ -63,9 +77,9 @@ pub fn in_label_with(kanji: &[u32], c: u32) -> bool
     ensures { λ r. ⌜ r ≡ labelChar (todayWith (now (kanji .entry))) c ⌝ }
 {
     if c < 0x80 {
-        return characters::is_ascii(c);
+        return is_ascii(c);
     }
-    characters::is_japanese_with(kanji, c)
+    is_japanese(kind_with(kanji, c))
 }
 
 fn is_unfit(kanji: &[u32], c: u32) -> bool

@@ -7,7 +7,7 @@ use mathlib.Core.List.{List, [], _∷_, _++_}
 use Prim.Native.Nat.{ℕ, _-_, _≤_, _<_}
 use native.Mathlib.Omega.{arith}
 use lib.Dec.{ltb}
-use lib.ListN.{length, take, drop}
+use lib.ListN.{length, take, drop, getD}
 use lib.Seq.{take-all}
 use borrow.Author.Tests.{ne-eqb, lt-ltb, le-ltb}
 use Rattle.lists.specs.Tests.{allOf, anyOf}
@@ -20,12 +20,14 @@ use Rattle.normal.proofs.Laws.{no-longer}
 use Rattle.rules.specs.Labels.{labels}
 use Rattle.rules.specs.Permits.{Permits}
 use Rattle.rules.specs.Rules.{labelRows, nameRows, frontRows, textRows, classOf, verdict, rules, accepted, refused}
+use Rattle.rules.specs.Kinds.{kindsIn}
 use Rattle.rules.specs.declared.Class.{Class}
+use Rattle.rules.specs.declared.Kinds.{Kinds}
 use Rattle.rules.specs.declared.Verdict.{Verdict}
 use Rattle.rules.proofs.ByName.{clear-text, text-cleared}
 use Rattle.ascii.specs.Ascii.{asciiForm, uncoded}
 use Rattle.fronts.proofs.Shown.{at-start, shown-full}
-use Rattle.names.specs.Calls.{Answers, checked, checkRows, Checks, asciiFormed, asciiRows, AsciiForms}
+use Rattle.names.specs.Calls.{Answers, checked, checkRows, Checks, kindsSaid, asciiFormed, refusedForm, asciiRows, AsciiForms}
 use Rattle.names.specs.Steps.{Judges}
 use Rattle.names.specs.declared.AsciiForm.{AsciiForm}
 use Rattle.names.specs.declared.Checked.{Checked}
@@ -106,33 +108,41 @@ module _ (P : Permits) (text before : List ℕ) where
 -- ---- the whole ASCII form
 
 module _ (P : Permits) (text before : List ℕ) where
-  pub ascii-no-room : {r : AsciiForm} → r ≡ asciiFormed (refused 1 0) 0 → length before < 192 → AsciiForms P text before before r
+  -- with a refusal no kinds are said
+  form-no : {n p : ℕ} {r : AsciiForm} → r ≡ refusedForm n p → first (asciiRows P text (length before)) ≡ record { number = n; place = p } → (n ≡ 0 → ⊥)
+      → AsciiForms P text before before r
+  unfolding kindsSaid
+  form-no {n} q e h = answers-no (asciiFormed P (labels (normalForm text))) _ text _ before (q ∙ rw (ne-eqb n 0 h)) e h
+
+  pub ascii-no-room : {r : AsciiForm} → r ≡ refusedForm 1 0 → length before < 192 → AsciiForms P text before before r
   unfolding asciiRows
-  ascii-no-room q h = answers-no asciiFormed _ text _ before q (hit 1 (ltb (length before) 192) 0 _ (lt-ltb (length before) 192 h)) (λ z. omega arith)
+  ascii-no-room q h = form-no q (hit 1 (ltb (length before) 192) 0 _ (lt-ltb (length before) 192 h)) (λ z. omega arith)
 
   module _ (h : 192 ≤ length before) where
     encoding : first (asciiRows P text (length before)) ≡ first (textRows P text ++ row 14 (anyOf (uncoded P) (labels (normalForm text))) 0 ∷ [])
     unfolding asciiRows
     encoding = passed-over 1 (ltb (length before) 192) 0 _ (le-ltb (length before) 192 h)
 
-    pub ascii-refused : {n p : ℕ} {r : AsciiForm} → first (textRows P text) ≡ record { number = n; place = p } → (n ≡ 0 → ⊥) → r ≡ asciiFormed (refused n p) 0
+    pub ascii-refused : {n p : ℕ} {r : AsciiForm} → first (textRows P text) ≡ record { number = n; place = p } → (n ≡ 0 → ⊥) → r ≡ refusedForm n p
         → AsciiForms P text before before r
     ascii-refused e f q =
-        answers-no asciiFormed _ text _ before q
+        form-no q
         (encoding ∙ refused-before (textRows P text) _ (λ z. f (sym (ap (λ (a : Answer). a .number) e) ∙ z)) ∙ e) f
 
     module _ (all : Clear (textRows P text)) where
       judged-on : first (asciiRows P text (length before)) ≡ first (row 14 (anyOf (uncoded P) (labels (normalForm text))) 0 ∷ [])
       judged-on = encoding ∙ clear-before (textRows P text) _ all
 
-      pub ascii-uncoded : {r : AsciiForm} → r ≡ asciiFormed (refused 14 0) 0 → anyOf (uncoded P) (labels (normalForm text)) ≡ true → AsciiForms P text before before r
-      ascii-uncoded z q = answers-no asciiFormed _ text _ before z (judged-on ∙ hit 14 (anyOf (uncoded P) (labels (normalForm text))) 0 [] q) (λ z. omega arith)
+      pub ascii-uncoded : {r : AsciiForm} → r ≡ refusedForm 14 0 → anyOf (uncoded P) (labels (normalForm text)) ≡ true → AsciiForms P text before before r
+      ascii-uncoded z q = form-no z (judged-on ∙ hit 14 (anyOf (uncoded P) (labels (normalForm text))) 0 [] q) (λ z. omega arith)
 
-      pub ascii-accepted : {k : Class} {n : ℕ} {after : List ℕ} → anyOf (uncoded P) (labels (normalForm text)) ≡ false
-          → k ≡ classOf (labels (normalForm text)) → n ≡ length (asciiForm P (normalForm text)) → after ≡ written (asciiForm P (normalForm text)) before
-          → AsciiForms P text before after (record { number = 0; place = 0; class = k; length = n })
-      ascii-accepted q k s w =
-          answers-yes asciiFormed _ text _ before (judged-on ∙ clear (row 14 (anyOf (uncoded P) (labels (normalForm text))) 0 ∷ []) (q, tt)) k s w
+      pub ascii-accepted : {k : Class} {ks : Kinds} {n : ℕ} {after : List ℕ} → anyOf (uncoded P) (labels (normalForm text)) ≡ false
+          → k ≡ classOf (labels (normalForm text)) → ks ≡ kindsIn P (getD (labels (normalForm text)) 0 []) → n ≡ length (asciiForm P (normalForm text))
+          → after ≡ written (asciiForm P (normalForm text)) before → AsciiForms P text before after (record { number = 0; place = 0; class = k; kinds = ks; length = n })
+      unfolding kindsSaid
+      ascii-accepted q k e s w =
+          rw e
+          (answers-yes (asciiFormed P (labels (normalForm text))) _ text _ before (judged-on ∙ clear (row 14 (anyOf (uncoded P) (labels (normalForm text))) 0 ∷ []) (q, tt)) k s w)
 
 -- every row refuses, so with 0 none of them applies
 pub ascii-cleared : (P : Permits) (text : List ℕ) (room : ℕ) → first (asciiRows P text room) .number ≡ 0 → Clear (asciiRows P text room)

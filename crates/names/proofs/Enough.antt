@@ -7,7 +7,7 @@ use mathlib.Core.List.{List, [], _∷_, _++_}
 use mathlib.Core.Logic.{⊎-elim}
 use Prim.Native.Nat.{ℕ, _-_, _≤_}
 use native.Mathlib.Omega.{arith}
-use lib.ListN.{length, take, drop, length-append}
+use lib.ListN.{length, take, drop, getD, length-append}
 use lib.Seq.{take-at, take-all}
 use borrow.Author.Tests.{not-true, not-false}
 use Rattle.lists.specs.Tests.{allOf, anyOf, same}
@@ -17,14 +17,17 @@ use Rattle.lists.proofs.Laws.{both, or-right, same-is}
 use Rattle.normal.specs.Normal.{normalForm}
 use Rattle.rules.specs.Labels.{labels}
 use Rattle.rules.specs.Permits.{Permits, ShortMiddles, labelChar, middle}
-use Rattle.rules.specs.Rules.{isJapanese, long, ofName, pretends, jp, textRows, refused}
+use Rattle.rules.specs.Rules.{isJapanese, long, ofName, pretends, jp, textRows}
+use Rattle.rules.specs.Kinds.{kindsIn}
+use Rattle.rules.specs.declared.Kinds.{Kinds}
+use Rattle.labels.specs.Held.{heldIn}
 use Rattle.rules.proofs.ByName.{Passed, Honest, clear-text}
 use Rattle.rules.proofs.Cuts.{labels-fit}
 use Rattle.rules.proofs.Derived.{left-size, middle-length, two-or-three}
 use Rattle.ascii.specs.Labels.{high}
 use Rattle.ascii.specs.Ascii.{asciiForm, uncoded, writable}
 use Rattle.ascii.proofs.OfNames.{label-writable}
-use Rattle.names.specs.Calls.{asciiFormed, AsciiForms}
+use Rattle.names.specs.Calls.{refusedForm, AsciiForms}
 use Rattle.names.specs.Steps.{Writable, PutsWhere, Judges}
 use Rattle.names.specs.declared.AsciiForm.{AsciiForm}
 use Rattle.names.specs.declared.whole.Put.{Put}
@@ -73,6 +76,19 @@ module _ (P : Permits) (short : ShortMiddles P) (text : List ℕ) where
   pub ready : {lent after : List ℕ} {j : Ruled} → Judges P text lent after j → j .number ≡ 0 → Writable P (take (j .length - 0) (drop 0 after)) 192
   ready e z = let p = accepted-as P text e z in rw (p .form) (accepted-writable (p .clear))
 
+-- ---- what the leftmost label of an accepted name holds
+
+first-of : {A : Type 0} (f : A → Bool) (d : A) → f d ≡ true → (l : List A) → allOf f l ≡ true → f (getD l 0 d) ≡ true
+unfolding allOf
+first-of f d e [] a = e
+first-of f d e (x ∷ xs) a = both (f x) (allOf f xs) a .0
+
+leftmost-kinds : (P : Permits) (text : List ℕ) → Clear (textRows P text)
+    → heldIn P (getD (labels (normalForm text)) 0 []) .kinds ≡ kindsIn P (getD (labels (normalForm text)) 0 [])
+unfolding heldIn allOf
+leftmost-kinds P text c =
+    rw (first-of (allOf (labelChar P)) [] refl (labels (normalForm text)) (labels-fit P (normalForm text) (clear-text P text c .0 .fit)))
+
 -- ---- what is put is the form
 
 module _ (P : Permits) (text : List ℕ) {lent form : List ℕ} {j : Ruled} (e : Judges P text lent form j) (z : j .number ≡ 0) {zeros last : List ℕ} {r : Put}
@@ -96,18 +112,19 @@ module _ (P : Permits) (text : List ℕ) {lent form : List ℕ} {j : Ruled} (e :
     piece-length = ap length piece ∙ sym place-is
 
   module _ (before : List ℕ) (h : 192 ≤ length before) where
-    pub stopped : {a : AsciiForm} → a ≡ asciiFormed (refused 14 0) 0 → r .coded ≡ false → AsciiForms P text before before a
+    pub stopped : {a : AsciiForm} → a ≡ refusedForm 14 0 → r .coded ≡ false → AsciiForms P text before before a
     stopped q n =
         ascii-uncoded P text before h (accepted-as P text e z .clear) q (not-false (anyOf (uncoded P) (labels (normalForm text))) (sym (put-form .coded) ∙ n))
 
-    pub finished : {after : List ℕ} {n : ℕ} → r .coded ≡ true → n ≡ length (take (r .at - 0) (drop 0 last))
-        → after ≡ take n (take (r .at - 0) (drop 0 last)) ++ drop n before
-        → AsciiForms P text before after (record { number = 0; place = 0; class = j .class; length = r .at })
+    pub finished : {after : List ℕ} {n : ℕ} {ks : Kinds} → r .coded ≡ true → n ≡ length (take (r .at - 0) (drop 0 last))
+        → after ≡ take n (take (r .at - 0) (drop 0 last)) ++ drop n before → ks ≡ heldIn P (getD (labels (take (j .length - 0) (drop 0 form))) 0 []) .kinds
+        → AsciiForms P text before after (record { number = 0; place = 0; class = j .class; kinds = ks; length = r .at })
     unfolding written
-    finished {after} {n} y m w =
+    finished {after} {n} y m w f =
         let k : n ≡ length (asciiForm P (normalForm text)) = m ∙ ap length (piece y) in
         let all : take (length (asciiForm P (normalForm text))) (asciiForm P (normalForm text)) ≡ asciiForm P (normalForm text) =
         take-all (length (asciiForm P (normalForm text))) (asciiForm P (normalForm text)) (omega arith) in
         let p = accepted-as P text e z in
-        ascii-accepted P text before h (p .clear) (not-true (anyOf (uncoded P) (labels (normalForm text))) (sym (put-form .coded) ∙ y)) (p .class) (place-is y)
+        ascii-accepted P text before h (p .clear) (not-true (anyOf (uncoded P) (labels (normalForm text))) (sym (put-form .coded) ∙ y)) (p .class)
+        (f ∙ ap (λ (l : List ℕ). heldIn P (getD (labels l) 0 []) .kinds) (p .form) ∙ leftmost-kinds P text (p .clear)) (place-is y)
         (w ∙ rw (piece y, k, all))

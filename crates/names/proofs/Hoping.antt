@@ -16,7 +16,7 @@ use Rattle.lists.specs.declared.Answer.{Answer}
 use Rattle.lists.proofs.Fronts.{front}
 use Rattle.lists.proofs.Laws.{both, or-left, or-right, refuted, clash, lt-or-le}
 use Rattle.lists.proofs.Tables.{clear}
-use Rattle.characters.specs.Characters.{hyphen, hiragana, japaneseBy, japaneseWith}
+use Rattle.characters.specs.Characters.{hyphen, kinds, stretch, kindAmong, kindBy, anyKind, kindWith}
 use Rattle.normal.specs.Normal.{replacedFrom, compose, normalPlaced, normalForm}
 use Rattle.rules.specs.Labels.{labels}
 use Rattle.rules.specs.Permits.{Permits, ShortMiddles, jaChar, middle}
@@ -111,7 +111,7 @@ begins-middle table m e = e
 -- ---- a text
 
 pub nothing-yet : (table text : List ℕ) → length text ≡ 0 → true ≡ hopeful (todayWith table) text
-unfolding hopeful normalForm normalPlaced replacedFrom compose labels grows tries anyOf leftmost first labelRows hyphenEdge beginsWithHyphen endsWithHyphen short long hyphenPair pretends bareDot isJapanese middleDot hyphen todayWith jaChar japaneseWith japaneseBy hiragana within
+unfolding hopeful normalForm normalPlaced replacedFrom compose labels grows tries anyOf leftmost first labelRows hyphenEdge beginsWithHyphen endsWithHyphen short long hyphenPair pretends bareDot isJapanese middleDot hyphen todayWith jaChar kindWith kinds stretch kindAmong kindBy anyKind within
 nothing-yet table [] h = refl
 nothing-yet table (x ∷ xs) h = absurd (omega arith)
 

@@ -6,7 +6,7 @@ use mathlib.Core.List.{List, [], _∷_}
 use Prim.Native.Nat.{ℕ, _+_, _-_, _≤_, _<_}
 use native.Mathlib.Omega.{arith}
 use lib.Dec.{eqb}
-use lib.ListN.{length, take, drop, length-drop}
+use lib.ListN.{length, take, drop, getD, length-drop}
 use lib.Seq.{take-all}
 use borrow.Author.Tests.{eq-eqb, ne-eqb}
 use Rattle.lists.specs.Tests.{anyOf, indexOf, same}
@@ -16,7 +16,7 @@ use Rattle.rules.specs.Prefectures.{prefectures}
 use Rattle.rules.specs.Rules.{byLabels, refused}
 use Rattle.rules.specs.Editions.{todayWith}
 use Rattle.rules.specs.declared.Verdict.{Verdict}
-use Rattle.rules.proofs.Cuts.{some-label, last-from, first-from}
+use Rattle.rules.proofs.Cuts.{some-label, last-from, first-from, by-end}
 use Rattle.rules.proofs.Steps.{empty-is, name-5, name-6}
 
 -- ---- empty labels
@@ -114,6 +114,10 @@ module _ (t : List ℕ) (a : ℕ) (sa : a ≡ 0 + indexOf period (drop 0 t)) whe
             → labels t ≡ take (a - 0) (drop 0 t) ∷ take (b - (a + 1)) (drop (a + 1) t) ∷ take (d - (b + 1)) (drop (b + 1) t) ∷ labels (drop (d + 1) t)
         more-is k =
             two ∙ ap (λ (ls : List (List ℕ)). take (a - 0) (drop 0 t) ∷ take (b - (a + 1)) (drop (a + 1) t) ∷ ls) (first-from t (b + 1) d (omega arith) sd k)
+
+-- the leftmost label ends at the first period
+pub leftmost-is : (t : List ℕ) (a : ℕ) → a ≡ 0 + indexOf period (drop 0 t) → take (a - 0) (drop 0 t) ≡ getD (labels t) 0 []
+leftmost-is t a s = by-end t 0 a (omega arith) s (λ rest e. sym (ap (λ (ls : List (List ℕ)). getD ls 0 []) e))
 
 module _ (P : Permits) (t : List ℕ) (a : ℕ) (sa : a ≡ 0 + indexOf period (drop 0 t)) where
   pub one-label : length t ≤ a → refused 5 0 ≡ byLabels P (labels t)

@@ -14,7 +14,7 @@ use Rattle.lists.specs.declared.Answer.{Answer}
 use Rattle.lists.proofs.Laws.{clash, all-not, same-refl}
 use Rattle.lists.proofs.Tables.{clear, gave-front}
 use Rattle.characters.specs.KanjiBits.{kanjiBits}
-use Rattle.characters.specs.Characters.{alnum, hyphen, asciiSet, hiragana, katakana, signs, japaneseBy, kanjiWith, japaneseWith}
+use Rattle.characters.specs.Characters.{alnum, hyphen, asciiSet, kinds, signs, stretch, kindAmong, kindBy, anyKind, kanjiWith, kindWith}
 use Rattle.characters.proofs.Bounds.{with-bounds}
 use Rattle.normal.specs.Normal.{normalForm}
 use Rattle.rules.specs.Labels.{labels}
@@ -140,7 +140,7 @@ needs-17 = breaks shared-today
 
 -- and, of an edition that keeps all other laws, that no prefecture label seems encoded
 pub twins-laws : Laws twins
-unfolding within allOf anyOf elem alnum hyphen asciiSet hiragana katakana signs japaneseBy kanjiWith japaneseWith jaChar labelChar isEmpty twins
+unfolding within allOf anyOf elem alnum hyphen asciiSet kinds signs stretch kindAmong kindBy anyKind kanjiWith kindWith jaChar labelChar isEmpty twins
 twins-laws = record {
   stretch = λ c e. with-bounds kanjiBits c e;
   middle-chars = refl;

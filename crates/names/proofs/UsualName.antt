@@ -17,7 +17,7 @@ use Rattle.lists.specs.Rows.{first, Clear}
 use Rattle.lists.specs.declared.Answer.{Answer}
 use Rattle.lists.proofs.Laws.{either, both, or-right, inside, outside, in-range, all-append, all-weaker, all-none, differs, same-refl, same-is}
 use Rattle.lists.proofs.Pieces.{then}
-use Rattle.characters.specs.Characters.{alnum, hyphen, asciiSet, hiragana, katakana, signs, japaneseBy, kanjiWith, japaneseWith}
+use Rattle.characters.specs.Characters.{alnum, hyphen, asciiSet, kinds, signs, stretch, kindAmong, kindBy, anyKind, kanjiWith, kindWith}
 use Rattle.characters.specs.Replace.{ranges, rangeIn, isHalf, replaceIn, replace}
 use Rattle.characters.proofs.Classes.{stays, ascii-stays}
 use Rattle.normal.specs.Normal.{normalForm}
@@ -25,8 +25,10 @@ use Rattle.normal.proofs.Unchanged.{unchanged, unchanged-by, unchanged-form}
 use Rattle.rules.specs.Labels.{period, intoFirst, labels, join}
 use Rattle.rules.specs.Permits.{Permits, InStretch, ShortMiddles, jaChar, labelChar, isEmpty}
 use Rattle.rules.specs.Rules.{unfit, isJapanese, ofName, labelRows, jp, textRows, classOf, verdict, byLabels, rules, accepted, refused}
+use Rattle.rules.specs.Kinds.{kindsIn, anyFound}
 use Rattle.rules.specs.Editions.{todayWith}
 use Rattle.rules.specs.declared.Class.the-variants.{General}
+use Rattle.rules.specs.declared.Kinds.{Kinds}
 use Rattle.rules.specs.declared.Verdict.{Verdict}
 use Rattle.rules.proofs.ByName.{text-cleared}
 use Rattle.rules.proofs.Cuts.{labels-cut}
@@ -34,11 +36,13 @@ use Rattle.rules.proofs.Derived.{no-period}
 use Rattle.rules.proofs.Sound.{low}
 use Rattle.rules.proofs.Steps.{front-0, text-on, name-left, name-0}
 use Rattle.labels.specs.Known.{knownRows}
+use Rattle.labels.specs.Held.{heldIn}
+use Rattle.labels.specs.declared.Held.{Held}
 use Rattle.labels.proofs.OfLabel.{rows-are}
-use Rattle.ascii.specs.Labels.{high}
+use Rattle.labels.proofs.Holding.{any-found}
 use Rattle.ascii.specs.Ascii.{asciiLabel, asciiForm, uncoded, writable}
-use Rattle.ascii.proofs.OfNames.{high-fit, label-size}
-use Rattle.names.specs.Calls.{asciiFormed, AsciiForms}
+use Rattle.ascii.proofs.OfNames.{label-size}
+use Rattle.names.specs.Calls.{refusedForm, AsciiForms}
 use Rattle.names.specs.Steps.{PutsOrKeeps, UsualLabel, dotJp, endsInJp}
 use Rattle.names.specs.declared.AsciiForm.{AsciiForm}
 use Rattle.names.specs.declared.whole.Put.{Put}
@@ -56,7 +60,7 @@ pub record Marks (P : Permits) : Type 0 where
   pub dot : jaChar P 0x30FB ≡ true
 
 pub lent-marks : (table : List ℕ) → Marks (todayWith table)
-unfolding jaChar labelChar todayWith japaneseWith japaneseBy hiragana katakana kanjiWith elem anyOf signs asciiSet alnum hyphen within
+unfolding jaChar labelChar todayWith kindWith kinds stretch kindAmong kindBy anyKind kanjiWith elem anyOf signs asciiSet alnum hyphen within
 lent-marks table = record { voiced = refl; half-voiced = refl; dot = refl }
 
 module _ (P : Permits) (stretch : InStretch P) where
@@ -133,12 +137,13 @@ module _ (text : List ℕ) where
         let z : length text - 3 - 0 ≡ length text - 3 = omega arith in
         rw (z, ← same-is (drop (length text - 3) text) dotJp (ending .1)) (take-append-drop (length text - 3) text)
 
-    pub usual-label : (P : Permits) → allOf (labelChar P) before-jp ≡ true → UsualLabel P before-jp
-    unfolding jp
-    usual-label P a =
+    pub usual-label : (P : Permits) {h : Held} → h ≡ heldIn P before-jp → h .fit ≡ true → UsualLabel P before-jp (h .kinds)
+    unfolding jp heldIn
+    usual-label P {h} q a =
         let s = ending-sizes in
         let n : length before-jp + 3 ≡ length text = sym (length-append before-jp dotJp) ∙ ap length the-two in
-        record { fit = a; some = omega arith; few = omega arith }
+        let fits = sym (ap (λ (x : Held). x .fit) q) ∙ a in
+        record { fit = fits; found = ap (λ (x : Held). x .kinds) q ∙ rw fits; some = omega arith; few = omega arith }
 
     -- what is said of the two is said of the text
     pub as-text : (P : Permits) {before after : List ℕ} {r : AsciiForm} → AsciiForms P (before-jp ++ dotJp) before after r → AsciiForms P text before after r
@@ -146,7 +151,7 @@ module _ (text : List ℕ) where
 
 -- ---- the text
 
-module _ (P : Permits) (stretch : InStretch P) (shorts : ShortMiddles P) (marks : Marks P) (label : List ℕ) (w : UsualLabel P label) where
+module _ (P : Permits) (stretch : InStretch P) (shorts : ShortMiddles P) (marks : Marks P) (label : List ℕ) {ks : Kinds} (w : UsualLabel P label ks) where
   abbrev text : List ℕ
   text = label ++ dotJp
 
@@ -183,14 +188,14 @@ module _ (P : Permits) (stretch : InStretch P) (shorts : ShortMiddles P) (marks 
 
   -- ---- what is said of it
 
-  module _ {j : Bool} {a : Answer} (known : j ≡ anyOf high label) (told : a ≡ first (knownRows P j ofName label 0)) where
+  module _ {j : Bool} {a : Answer} (known : j ≡ anyFound ks) (told : a ≡ first (knownRows P j ofName label 0)) where
     e : a ≡ first (labelRows P ofName label 0)
-    e = told ∙ rows-are P (marks .dot) label ofName 0 (known ∙ high-fit P stretch label (w .fit))
+    e = told ∙ rows-are P (marks .dot) label ofName 0 (known ∙ ap anyFound (w .found) ∙ sym (any-found P label))
 
     refused-by : (a .number ≡ 0 → ⊥) → rules P text ≡ refused (a .number) (a .place)
     refused-by h = ruled ∙ name-left P (label ∷ jp ∷ []) refl filled e h
 
-    pub usual-refused : {before : List ℕ} {r : AsciiForm} → 192 ≤ length before → (a .number ≡ 0 → ⊥) → r ≡ asciiFormed (refused (a .number) (a .place)) 0
+    pub usual-refused : {before : List ℕ} {r : AsciiForm} → 192 ≤ length before → (a .number ≡ 0 → ⊥) → r ≡ refusedForm (a .number) (a .place)
         → AsciiForms P text before before r
     unfolding rules verdict
     usual-refused {before} room h q =
@@ -215,7 +220,7 @@ module _ (P : Permits) (stretch : InStretch P) (shorts : ShortMiddles P) (marks 
         unfolding anyOf uncoded
         uncoded-is = rw (labels-are, jp-ascii P stretch) (or-false _)
 
-        pub usual-uncoded : {r′ : AsciiForm} → 192 ≤ length before → r .coded ≡ false → r′ ≡ asciiFormed (refused 14 0) 0 → AsciiForms P text before after r′
+        pub usual-uncoded : {r′ : AsciiForm} → 192 ≤ length before → r .coded ≡ false → r′ ≡ refusedForm 14 0 → AsciiForms P text before after r′
         usual-uncoded room y q =
             rw (t .kept y) (ascii-uncoded P text before room clears q (uncoded-is ∙ not-false (uncoded P label) (sym (t .puts .coded) ∙ y)))
 
@@ -232,9 +237,9 @@ module _ (P : Permits) (stretch : InStretch P) (shorts : ShortMiddles P) (marks 
 
           pub usual-accepted : 192 ≤ length before → r .at + 3 ≤ length after
               → AsciiForms P text before (set (set (set after (r .at) 0x2E) (r .at + 1) 0x6A) (r .at + 2) 0x70)
-              (record { number = 0; place = 0; class = General; length = r .at + 3 })
+              (record { number = 0; place = 0; class = General; kinds = ks; length = r .at + 3 })
           unfolding classOf written
           usual-accepted room l =
               let puts = then (t .puts .put y) (put-jp after (r .at) l) in
               let size : r .at + 3 ≡ length (asciiLabel P label ++ dotJp) = omega (arith, puts .place) in
-              ascii-accepted P text before room clears (uncoded-is ∙ taken) (rw labels-are) (size ∙ ap length (sym form-ascii)) (puts .buffer ∙ rw (form-ascii, size))
+              ascii-accepted P text before room clears (uncoded-is ∙ taken) (rw labels-are) (rw labels-are (w .found)) (size ∙ ap length (sym form-ascii)) (puts .buffer ∙ rw (form-ascii, size))

@@ -4,15 +4,18 @@ use mathlib.Core.Bool.{false}
 use mathlib.Core.List.{List, [], _∷_, _++_}
 use mathlib.Core.Path.{_≡_}
 use Prim.Native.Nat.{ℕ}
-use lib.Dec.{ltb}
-use lib.ListN.{length}
-use Rattle.lists.specs.Tests.{anyOf}
+use lib.Dec.{eqb, ltb}
+use lib.ListN.{length, getD}
+use Rattle.lists.specs.Tests.{pick, anyOf}
 use Rattle.lists.specs.Rows.{Row, row, Gives}
 use Rattle.lists.specs.declared.Answer.{Answer}
 use Rattle.normal.specs.Normal.{normalForm}
 use Rattle.rules.specs.Labels.{labels}
 use Rattle.rules.specs.Permits.{Permits}
+use Rattle.rules.specs.Kinds.{kindsIn, noKinds}
 use Rattle.rules.specs.Rules.{textRows, verdict, rules}
+use Rattle.rules.specs.declared.Class.the-variants.{None}
+use Rattle.rules.specs.declared.Kinds.{Kinds}
 use Rattle.rules.specs.declared.Verdict.{Verdict}
 use Rattle.fronts.specs.Fronts.{shown, padded}
 use Rattle.ascii.specs.Ascii.{asciiForm, uncoded}
@@ -65,8 +68,18 @@ asciiRows P text room =
     row 14 (anyOf (uncoded P) (labels (normalForm text))) 0 ∷
     [])
 
-abbrev pub asciiFormed : Verdict → ℕ → AsciiForm
-asciiFormed v n = record { number = v .number; place = v .place; class = v .class; length = n }
+-- with 0 the kinds found in the leftmost of the labels, and none otherwise (document 02, K6)
+unfoldable pub kindsSaid : Permits → List (List ℕ) → ℕ → Kinds
+kindsSaid P ls number = pick (eqb number 0) (kindsIn P (getD ls 0 [])) noKinds
+
+abbrev pub asciiFormed : Permits → List (List ℕ) → Verdict → ℕ → AsciiForm
+asciiFormed P ls v n =
+    let kinds = kindsSaid P ls (v .number) in
+    record { number = v .number; place = v .place; class = v .class; kinds = kinds; length = n }
+
+-- a refusal
+abbrev pub refusedForm : ℕ → ℕ → AsciiForm
+refusedForm n p = record { number = n; place = p; class = None; kinds = noKinds; length = 0 }
 
 -- the same of this one
 abbrev pub asciiSaid : AsciiForm → Verdict
@@ -74,7 +87,8 @@ asciiSaid r = record { number = r .number; place = r .place; class = r .class }
 
 abbrev pub AsciiForms : Permits → List ℕ → List ℕ → List ℕ → AsciiForm → Type 0
 AsciiForms P text before after r =
-    Answers asciiFormed (asciiRows P text (length before)) text (asciiForm P (normalForm text)) before after r
+    let form = normalForm text in
+    Answers (asciiFormed P (labels form)) (asciiRows P text (length before)) text (asciiForm P form) before after r
 
 -- the ASCII form of an accepted text is given (document 02, K4): 14 does not apply either
 abbrev pub Coded : Permits → List ℕ → Type 0

@@ -8,8 +8,8 @@ use Prim.Native.Nat.{ℕ}
 use Rattle.lists.specs.Tests.{within, allOf, anyOf, indexOf, elem, same}
 use Rattle.lists.specs.Rows.{first, without}
 use Rattle.characters.specs.KanjiBits.{kanjiBits}
-use Rattle.characters.specs.Characters.{alnum, hyphen, asciiSet, hiragana, katakana, signs, japaneseBy, kanjiWith}
-use Rattle.characters.specs.Characters.{japaneseWith}
+use Rattle.characters.specs.Characters.{alnum, hyphen, asciiSet, kinds, signs, stretch, kindAmong, kindBy, anyKind}
+use Rattle.characters.specs.Characters.{kanjiWith, kindWith}
 use Rattle.characters.specs.Replace.{ranges, rangeIn, halfKana, isHalf, replaceIn, replace}
 use Rattle.characters.specs.Compose.{voiced, repeats, halfVoiced, eitherKana, composed}
 use Rattle.normal.specs.Normal.{replacedFrom, compose, normalPlaced, normalForm, places}
@@ -46,12 +46,12 @@ prefecture m = join ((0x61 ∷ 0x62 ∷ 0x63 ∷ []) ∷ m ∷ jp ∷ [])
 -- xn--l8j.jp and 3042 .jp, without row 17; computed by the bits of the kanji, of the edition in force it is
 -- `shared-today` (proofs/OneForm)
 pub shared : Share (rulesBut 17) (todayWith kanjiBits) General (general encoded) (general kana)
-unfolding within allOf anyOf indexOf elem same first without alnum hyphen asciiSet hiragana katakana signs japaneseBy
-    kanjiWith japaneseWith ranges rangeIn halfKana isHalf replaceIn replace voiced repeats halfVoiced eitherKana
-    composed replacedFrom compose normalPlaced normalForm places period intoFirst labels join jaChar labelChar middle
-    isEmpty unfit middleDot ordinary isJapanese beginsWithHyphen endsWithHyphen hyphenEdge short long hyphenPair
-    pretends bareDot labelRows jp nameRows frontRows textRows classOf verdict rulesBut todayWith prefectures asciiLabel
-    asciiForm uncoded
+unfolding within allOf anyOf indexOf elem same first without alnum hyphen asciiSet kinds signs stretch kindAmong
+    kindBy anyKind kanjiWith kindWith ranges rangeIn halfKana isHalf replaceIn replace voiced repeats halfVoiced
+    eitherKana composed replacedFrom compose normalPlaced normalForm places period intoFirst labels join jaChar
+    labelChar middle isEmpty unfit middleDot ordinary isJapanese beginsWithHyphen endsWithHyphen hyphenEdge short long
+    hyphenPair pretends bareDot labelRows jp nameRows frontRows textRows classOf verdict rulesBut todayWith
+    prefectures asciiLabel asciiForm uncoded
 shared = record {
   one = refl;
   other = refl;
@@ -63,14 +63,14 @@ shared = record {
 
 -- an edition with these two as prefecture labels, and abc.xn--l8j.jp and abc. 3042 .jp, with row 17
 unfoldable pub twins : Permits
-twins = record { japanese = japaneseWith kanjiBits; middles = encoded ∷ kana ∷ []; three = true }
+twins = record { kind = kindWith kanjiBits; middles = encoded ∷ kana ∷ []; three = true }
 
 pub shared-middles : Share rules twins Prefecture (prefecture encoded) (prefecture kana)
-unfolding within allOf anyOf indexOf elem same first alnum hyphen asciiSet hiragana katakana signs japaneseBy kanjiWith
-    japaneseWith ranges rangeIn halfKana isHalf replaceIn replace voiced repeats halfVoiced eitherKana composed
-    replacedFrom compose normalPlaced normalForm places period intoFirst labels join jaChar labelChar middle isEmpty
-    unfit middleDot ordinary isJapanese beginsWithHyphen endsWithHyphen hyphenEdge short long hyphenPair pretends
-    bareDot labelRows jp nameRows frontRows textRows classOf verdict rules twins asciiLabel asciiForm uncoded
+unfolding within allOf anyOf indexOf elem same first alnum hyphen asciiSet kinds signs stretch kindAmong kindBy
+    anyKind kanjiWith kindWith ranges rangeIn halfKana isHalf replaceIn replace voiced repeats halfVoiced eitherKana
+    composed replacedFrom compose normalPlaced normalForm places period intoFirst labels join jaChar labelChar middle
+    isEmpty unfit middleDot ordinary isJapanese beginsWithHyphen endsWithHyphen hyphenEdge short long hyphenPair
+    pretends bareDot labelRows jp nameRows frontRows textRows classOf verdict rules twins asciiLabel asciiForm uncoded
 shared-middles = record {
   one = refl;
   other = refl;

@@ -9,7 +9,9 @@ use Rattle.lists.specs.Tests.{within, allOf, same}
 use Rattle.lists.specs.Front.{written, Puts}
 use Rattle.rules.specs.Labels.{labels}
 use Rattle.rules.specs.Permits.{Permits, labelChar}
+use Rattle.rules.specs.Kinds.{kindsIn}
 use Rattle.rules.specs.Rules.{jp, rules}
+use Rattle.rules.specs.declared.Kinds.{Kinds}
 use Rattle.fronts.specs.Fronts.{shown}
 use Rattle.ascii.specs.Ascii.{writable}
 use Rattle.names.specs.declared.whole.Put.{Put}
@@ -44,9 +46,10 @@ pub record PutsOrKeeps (taken : Bool) (piece before after : List ℕ) (at : ℕ)
 
 -- ---- the usual name: a label that holds only what a label may, and ".jp"
 
--- one to which ".jp" can be put
-pub record UsualLabel (P : Permits) (label : List ℕ) : Type 0 where
+-- one to which ".jp" can be put, and the kinds that are found in it
+pub record UsualLabel (P : Permits) (label : List ℕ) (kinds : Kinds) : Type 0 where
   pub fit : allOf (labelChar P) label ≡ true
+  pub found : kinds ≡ kindsIn P label
   pub some : 1 ≤ length label
   pub few : length label ≤ 253
 

@@ -56,10 +56,11 @@ pub struct Checked {
     pub length: usize,
 }
 
-// What the call for the whole ASCII form answers.
+// What the call for the whole ASCII form answers; with 0 the kinds are those of the leftmost label.
 pub struct AsciiForm {
     pub number: u8,
     pub place: usize,
     pub class: rules::Class,
+    pub kinds: rules::Kinds,
     pub length: usize,
 }

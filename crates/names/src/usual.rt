@@ -6,16 +6,14 @@ use crate::LEAST;
 use crate::OVER_63;
 use crate::whole::put_label;
 use crate::whole::refused_form;
-use ascii::any_high;
-use labels::in_label_with;
+use labels::any_kind;
 use labels::known_rule_with;
 use rules::Class;
+use rules::Kinds;
 ghost use mathlib.Core.Path.{_≡_};
 ghost use mathlib.Core.List.{_++_};
 ghost use Prim.Native.Nat.{_≤_};
 ghost use lib.ListN.{length};
-ghost use Rattle.lists.specs.Tests.{allOf};
-ghost use Rattle.rules.specs.Permits.{labelChar};
 ghost use Rattle.rules.specs.Editions.{todayWith};
 ghost use Rattle.names.specs.Calls.{AsciiForms};
 ghost use Rattle.names.specs.Steps.{UsualLabel, dotJp, endsInJp};
@@ -43,27 +41,13 @@ pub(crate) fn ends_in_jp(text: &[u32]) -> bool
     text[m + 2] == 0x70
 }
 
-// May a label hold every character?
-pub(crate) fn all_in_label(kanji: &[u32], label: &[u32]) -> bool
-    ensures { λ r. ⌜ r ≡ allOf (labelChar (todayWith (now (kanji .entry)))) (now (label .entry)) ⌝ }
-{
-    let mut i = 0;
-    while i < label.len() {
-        if !in_label_with(kanji, label[i]) {
-            return false;
-        }
-        i += 1;
-    }
-    true
-}
-
-// The ASCII form of such a label and ".jp": of the rules only 7 to 10 and 17 can apply. Row 14 is answered as the contract lists it, though it
-// never comes (proofs/Coded).
-pub(crate) fn usual_name(kanji: &[u32], label: &[u32], out: &mut [u8]) -> AsciiForm
-    requires { ⌜ UsualLabel (todayWith (now kanji)) (now label) × (192 ≤ length (now out)) ⌝ }
+// The ASCII form of such a label, of which it is known what kinds it holds, and ".jp": of the rules only 7 to 10 and 17 can apply. Row 14 is
+// answered as the contract lists it, though it never comes (proofs/Coded).
+pub(crate) fn usual_name(kanji: &[u32], label: &[u32], kinds: Kinds, out: &mut [u8]) -> AsciiForm
+    requires { ⌜ UsualLabel (todayWith (now kanji)) (now label) kinds × (192 ≤ length (now out)) ⌝ }
     ensures { λ r. ⌜ AsciiForms (todayWith (now (kanji .entry))) (now (label .entry) ++ dotJp) (now (out .entry)) (now (out .exit)) r ⌝ }
 {
-    let japanese = any_high(label);
+    let japanese = any_kind(kinds);
     let rule = known_rule_with(kanji, label, japanese, LEAST, EVERY_PAIR, 0);
     if rule.number != ACCEPTED {
         return refused_form(rule.number, rule.place);
@@ -80,6 +64,7 @@ pub(crate) fn usual_name(kanji: &[u32], label: &[u32], out: &mut [u8]) -> AsciiF
         number: ACCEPTED,
         place: 0,
         class: Class::General,
+        kinds,
         length: at + 3,
     }
 }

@@ -5,32 +5,41 @@ use crate::AsciiForm;
 use crate::NO_ROOM;
 use crate::OVER_63;
 use crate::judges::judge_into;
-use crate::usual::all_in_label;
 use crate::usual::ends_in_jp;
 use crate::usual::usual_name;
 use ascii::label_form;
+use labels::held_with;
 use labels::label_end;
 use rules::Class;
+use rules::Kinds;
 ghost use mathlib.Core.Path.{_≡_};
 ghost use mathlib.Core.Bool.{true, not};
+ghost use mathlib.Core.List.{[]};
 ghost use Prim.Native.Nat.{_+_, _≤_};
-ghost use lib.ListN.{length};
+ghost use lib.ListN.{length, getD};
 ghost use Rattle.lists.specs.Tests.{anyOf};
 ghost use Rattle.rules.specs.Editions.{today, todayWith};
 ghost use Rattle.ascii.specs.Ascii.{asciiLabel, asciiForm, uncoded, writable};
 ghost use Rattle.rules.specs.Labels.{labels};
-ghost use Rattle.rules.specs.Rules.{refused};
-ghost use Rattle.names.specs.Calls.{asciiFormed, AsciiForms};
+ghost use Rattle.labels.specs.Held.{heldIn};
+ghost use Rattle.names.specs.Calls.{refusedForm, AsciiForms};
 ghost use Rattle.names.specs.Steps.{Writable, PutsWhere, PutsOrKeeps};
 
 // A refusal: length 0, and nothing is written.
 pub(crate) fn refused_form(number: u8, place: usize) -> AsciiForm
-    ensures { λ r. ⌜ r ≡ asciiFormed (refused number place) 0 ⌝ }
+    ensures { λ r. ⌜ r ≡ refusedForm number place ⌝ }
 {
+    let kinds = Kinds {
+        hiragana: false,
+        katakana: false,
+        kanji: false,
+        sign: false,
+    };
     AsciiForm {
         number,
         place,
         class: Class::None,
+        kinds,
         length: 0,
     }
 }
@@ -80,6 +89,15 @@ fn put_labels(kanji: &[u32], form: &[u32], out: &mut [u8]) -> Put
     }
 }
 
+// The kinds found in the leftmost label of a form that has passed the rules.
+fn leftmost_kinds(kanji: &[u32], form: &[u32]) -> Kinds
+    ensures { λ r. ⌜ r ≡ heldIn (todayWith (now (kanji .entry))) (getD (labels (now (form .entry))) 0 []) .kinds ⌝ }
+{
+    let end = label_end(form, 0);
+    let held = held_with(kanji, &form[0..end]);
+    held.kinds
+}
+
 // The ASCII form of any text: its normal form is judged, put into octets and copied.
 fn any_name(kanji: &[u32], text: &[u32], out: &mut [u8]) -> AsciiForm
     requires { ⌜ 192 ≤ length (now out) ⌝ }
@@ -100,11 +118,13 @@ fn any_name(kanji: &[u32], text: &[u32], out: &mut [u8]) -> AsciiForm
     let length = put.at;
     let octets: &[u8] = &ascii;
     bytes::copy(&octets[0..length], out);
+    let kinds = leftmost_kinds(kanji, &buffer[0..n]);
     let class = ruled.class;
     AsciiForm {
         number: ACCEPTED,
         place: 0,
         class,
+        kinds,
         length,
     }
 }
@@ -120,10 +140,11 @@ pub fn to_ascii_with(kanji: &[u32], text: &[u32], out: &mut [u8]) -> AsciiForm
         return any_name(kanji, text, out);
     }
     let n = text.len() - 3;
-    if !all_in_label(kanji, &text[0..n]) {
+    let held = held_with(kanji, &text[0..n]);
+    if !held.fit {
         return any_name(kanji, text, out);
     }
-    usual_name(kanji, &text[0..n], out)
+    usual_name(kanji, &text[0..n], held.kinds, out)
 }
 
 // The same by the kanji of this edition.

@@ -20,16 +20,32 @@ fn class_letter(c: u32) -> u8 {
     }
 }
 
-// What a code point is: a flag for each call that says so.
+// The letter of a kind.
+fn kind_letter(kind: characters::Kind) -> u8 {
+    match kind {
+        characters::Kind::Hiragana => b'H',
+        characters::Kind::Katakana => b'K',
+        characters::Kind::Kanji => b'J',
+        characters::Kind::Sign => b'S',
+        characters::Kind::None => b'-',
+    }
+}
+
+// What a code point is: a flag for each call that says so, and its kind by either call.
 fn put_flags(kanji: &[u32], c: u32, out: &mut [u8], from: usize) -> usize {
     let mut o = put_flag(out, from, characters::is_alnum(c));
     o = put_flag(out, o, characters::is_ascii(c));
-    o = put_flag(out, o, characters::is_japanese_with(kanji, c));
-    put_flag(out, o, characters::is_japanese(c))
+    o = put_flag(
+        out,
+        o,
+        characters::is_japanese(characters::kind_with(kanji, c)),
+    );
+    o = put_byte(out, o, kind_letter(characters::kind_with(kanji, c)));
+    put_byte(out, o, kind_letter(characters::kind_of(c)))
 }
 
 // All that is said of a code point, and what it and the next become.
-fn put_kind(kanji: &[u32], c: u32, next: u32, out: &mut [u8], from: usize) -> usize {
+fn put_said(kanji: &[u32], c: u32, next: u32, out: &mut [u8], from: usize) -> usize {
     let mut o = put_flags(kanji, c, out, from);
     o = put_byte(out, o, class_letter(c));
     o = put_byte(out, o, b' ');
@@ -55,7 +71,7 @@ pub(crate) fn kinds(kanji: &[u32], numbers: &[u32], out: &mut [u8], from: usize)
     let mut i: usize = 0;
     while i < numbers.len() {
         o = put_gap(out, o, i);
-        o = put_kind(kanji, numbers[i], after(numbers, i), out, o);
+        o = put_said(kanji, numbers[i], after(numbers, i), out, o);
         i += 1;
     }
     o

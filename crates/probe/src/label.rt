@@ -6,8 +6,16 @@ fn of_halves(upper: u32, lower: u32) -> usize {
     upper as usize * 0x100000000 + lower as usize
 }
 
+// A space, a flag that says whether a label may hold all of its characters, and the kinds found.
+fn put_held(kanji: &[u32], label: &[u32], out: &mut [u8], from: usize) -> usize {
+    let held = labels::held_with(kanji, label);
+    let a = printed::put_byte(out, from, b' ');
+    let b = printed::put_flag(out, a, held.fit);
+    printed::put_kinds(out, b, held.kinds)
+}
+
 // What is said of a label: the first of 7 to 10 and 17 that applies, where one ends, its first unfit character, is it
-// Japanese?
+// Japanese, and what does it hold?
 fn put_label(
     kanji: &[u32],
     label: &[u32],
@@ -23,7 +31,8 @@ fn put_label(
     let b = printed::put_length(out, a, labels::label_end(label, from));
     let c = printed::put_length(out, b, labels::first_unfit_with(kanji, label));
     let d = printed::put_byte(out, c, b' ');
-    printed::put_flag(out, d, labels::holds_japanese_with(kanji, label))
+    let e = printed::put_flag(out, d, labels::holds_japanese_with(kanji, label));
+    put_held(kanji, label, out, e)
 }
 
 // A space, and the first of 7 to 10 and 17 that applies to the label if it is taken for Japanese, or for ASCII.

@@ -53,8 +53,7 @@ pub(crate) fn to_ascii(
     let buffer = &mut space[0..room];
     lent::fill_octets(buffer);
     let r = in_ascii(kanji, own, text, buffer);
-    let class = r.class;
-    let o = printed::put_classed(out, from, r.number, r.place, class, r.length);
+    let o = printed::put_form(out, from, r);
     lent::put_octets(out, o, buffer)
 }
 

@@ -89,6 +89,26 @@ fn put_class(out: &mut [u8], from: usize, class: rules::Class) -> usize {
     }
 }
 
+// A kind's letter where the kind is found.
+fn put_found(out: &mut [u8], o: usize, found: bool, letter: u8) -> usize {
+    if found {
+        return put_byte(out, o, letter);
+    }
+    o
+}
+
+// The letters of the kinds, or a hyphen where there is none.
+pub(crate) fn put_kinds(out: &mut [u8], from: usize, kinds: rules::Kinds) -> usize {
+    let mut o = put_found(out, from, kinds.hiragana, b'H');
+    o = put_found(out, o, kinds.katakana, b'K');
+    o = put_found(out, o, kinds.kanji, b'J');
+    o = put_found(out, o, kinds.sign, b'S');
+    if labels::any_kind(kinds) {
+        return o;
+    }
+    put_byte(out, o, b'-')
+}
+
 // A space and the length.
 pub(crate) fn put_length(out: &mut [u8], from: usize, length: usize) -> usize {
     let o = put_byte(out, from, b' ');
@@ -125,4 +145,15 @@ pub(crate) fn put_classed(
     let mut o = put_number(out, from, number, place);
     o = put_class(out, o, class);
     put_length(out, o, length)
+}
+
+// An answer with a class and kinds.
+pub(crate) fn put_form(out: &mut [u8], from: usize, form: names::AsciiForm) -> usize {
+    let class = form.class;
+    let kinds = form.kinds;
+    let mut o = put_number(out, from, form.number, form.place);
+    o = put_class(out, o, class);
+    o = put_byte(out, o, b' ');
+    o = put_kinds(out, o, kinds);
+    put_length(out, o, form.length)
 }

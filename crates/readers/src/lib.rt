@@ -1,6 +1,8 @@
 // The second reader of labels, as document 004 is written: one rule stands after a letter, digit or Japanese character, the
 // other after a hyphen, each handing the rest of the label to the other. Each call takes any label and says yes or no of it. Its meaning is
 // defined in `rules` (specs/Reader), and that it agrees with the rules but for 17 is shown there (proofs/ReaderAgrees).
+use characters::is_japanese;
+use characters::kind_with;
 use labels::in_label_with;
 use labels::is_ordinary_with;
 use rules::Seen;
@@ -39,7 +41,7 @@ fn noted(kanji: &[u32], s: Seen, x: u32) -> Seen
     requires { ⌜ s .count < 63 ⌝ }
     ensures { λ r. ⌜ r ≡ note (todayWith (now (kanji .entry))) s x ⌝ }
 {
-    let ja = either(s.ja, characters::is_japanese_with(kanji, x));
+    let ja = either(s.ja, is_japanese(kind_with(kanji, x)));
     let dot = either(s.dot, x == MIDDLE_DOT);
     let ordinary = either(s.ordinary, is_ordinary_with(kanji, x));
     Seen {

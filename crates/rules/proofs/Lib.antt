@@ -8,6 +8,7 @@ pub mod Derived
 pub mod Pretends
 pub mod Exactly
 pub mod Hosts
+pub mod AnyKind
 pub mod Today
 pub mod Steps
 pub mod Minus

@@ -13,8 +13,9 @@ use Rattle.characters.proofs.Pairs.{of-base}
 use Rattle.characters.specs.Kanji.{kanji}
 use Rattle.characters.specs.KanjiBits.{kanjiBits}
 use Rattle.characters.proofs.Bounds.{with-bounds}
+use Rattle.characters.proofs.OneKind.{any-but-none}
 use Rattle.characters.proofs.Lent as Lent
-use Rattle.characters.specs.Characters.{alnum, hyphen, asciiSet, hiragana, katakana, signs, japaneseBy, japanese}
+use Rattle.characters.specs.Characters.{alnum, hyphen, asciiSet, kinds, signs, stretch, kindAmong, kindBy, kind, anyKind, japanese}
 use Rattle.rules.specs.Permits.{Permits, InStretch, ShortMiddles, Laws, jaChar, labelChar, isEmpty}
 use Rattle.rules.specs.Prefectures.{prefectures}
 use Rattle.rules.specs.Pretends.{seemsEncoded, PlainMiddles}
@@ -28,7 +29,7 @@ ninety-four = refl
 -- ---- the laws
 
 all-held : allOf (allOf (labelChar today)) prefectures ≡ true
-unfolding allOf anyOf elem within jaChar labelChar asciiSet alnum hyphen hiragana katakana signs japaneseBy japanese kanji prefectures today
+unfolding allOf anyOf elem within jaChar labelChar asciiSet alnum hyphen kinds signs stretch kindAmong kindBy kind anyKind kanji prefectures today
 all-held = refl
 
 all-filled : allOf (λ (l : List ℕ). not (isEmpty l)) prefectures ≡ true
@@ -42,7 +43,7 @@ all-short = refl
 pub today-laws : Laws today
 unfolding today jaChar
 today-laws = record {
-  stretch = λ c e. with-bounds kanjiBits c (Lent.lent c ∙ e);
+  stretch = λ c e. with-bounds kanjiBits c (ap anyKind (Lent.lent c) ∙ e);
   middle-chars = all-held;
   middle-filled = all-filled;
   middle-short = all-short;
@@ -64,12 +65,12 @@ all-settled : allOf (allOf settled) prefectures ≡ true
 unfolding allOf settled asciiSet alnum hyphen within prefectures
 all-settled = refl
 
-base-japanese : (b m : ℕ) → (composed b m ≡ 0 → ⊥) → japanese b ≡ true
-unfolding voiced repeats halfVoiced allOf anyOf elem within hiragana katakana signs japaneseBy japanese
-base-japanese b m n = of-base japanese b m refl refl refl refl n
+base-japanese : (b m : ℕ) → (composed b m ≡ 0 → ⊥) → jaChar today b ≡ true
+unfolding today jaChar voiced repeats halfVoiced allOf anyOf elem within kinds signs stretch kindAmong kindBy kind anyKind kanji
+base-japanese b m n = of-base (jaChar today) b m refl refl refl refl n
 
 pub today-hope-laws : HopeLaws today
-unfolding today jaChar anyOf elem within hiragana katakana signs japaneseBy japanese
+unfolding today jaChar anyOf elem within kinds signs stretch kindAmong kindBy kind anyKind
 today-hope-laws = record {
   laws = today-laws;
   middle-settled = all-settled;
@@ -77,11 +78,18 @@ today-hope-laws = record {
   bases = base-japanese;
 }
 
+-- ---- any kind but none
+
+-- the Japanese characters of the edition are those that document 01 lists, so to ask for the kind changes no name's answer
+pub today-japanese : (c : ℕ) → jaChar today c ≡ japanese c
+unfolding today jaChar kind japanese
+today-japanese c = any-but-none _ c
+
 -- ---- the kanji lent
 
 pub lent : todayWith kanjiBits ≡ today
 unfolding today todayWith
-lent = λ i. record { japanese = λ c. Lent.lent c i; middles = prefectures; three = true }
+lent = λ i. record { kind = λ c. Lent.lent c i; middles = prefectures; three = true }
 
 -- so what a call says for the table that it is lent, it says for the edition in force where that table has the bits of the kanji
 pub lending : (Q : Permits → Type 0) {table : List ℕ} → table ≡ kanjiBits → Q (todayWith table) → Q today

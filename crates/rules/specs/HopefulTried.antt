@@ -8,8 +8,8 @@ use lib.ListN.{replicate}
 use Rattle.lists.specs.Tests.{within, allOf, anyOf, indexOf, elem, same}
 use Rattle.lists.specs.Rows.{first}
 use Rattle.characters.specs.KanjiBits.{kanjiBits}
-use Rattle.characters.specs.Characters.{alnum, hyphen, asciiSet, hiragana, katakana, signs, japaneseBy, kanjiWith}
-use Rattle.characters.specs.Characters.{japaneseWith}
+use Rattle.characters.specs.Characters.{alnum, hyphen, asciiSet, kinds, signs, stretch, kindAmong, kindBy, anyKind}
+use Rattle.characters.specs.Characters.{kanjiWith, kindWith}
 use Rattle.characters.specs.Replace.{ranges, rangeIn, halfKana, isHalf, replaceIn, replace}
 use Rattle.characters.specs.Compose.{voiced, repeats, halfVoiced, eitherKana, composed}
 use Rattle.normal.specs.Normal.{replacedFrom, compose, normalPlaced, normalForm, places}
@@ -95,9 +95,9 @@ abbrev pub Tells : Permits → Type 0
 Tells P = (says P yes ≡ replicate 19 true) × (says P no ≡ replicate 20 false)
 
 pub tried-hopeful : Tells (todayWith kanjiBits)
-unfolding within allOf anyOf indexOf elem same first alnum hyphen asciiSet hiragana katakana signs japaneseBy kanjiWith
-    japaneseWith ranges rangeIn halfKana isHalf replaceIn replace voiced repeats halfVoiced eitherKana composed
-    replacedFrom compose normalPlaced normalForm places period intoFirst labels jaChar labelChar isEmpty unfit middleDot
-    ordinary isJapanese beginsWithHyphen endsWithHyphen hyphenEdge short long hyphenPair pretends bareDot labelRows jp
-    prefectures middle todayWith begins leftmost tries grows hopeful
+unfolding within allOf anyOf indexOf elem same first alnum hyphen asciiSet kinds signs stretch kindAmong kindBy
+    anyKind kanjiWith kindWith ranges rangeIn halfKana isHalf replaceIn replace voiced repeats halfVoiced eitherKana
+    composed replacedFrom compose normalPlaced normalForm places period intoFirst labels jaChar labelChar isEmpty
+    unfit middleDot ordinary isJapanese beginsWithHyphen endsWithHyphen hyphenEdge short long hyphenPair pretends
+    bareDot labelRows jp prefectures middle todayWith begins leftmost tries grows hopeful
 tried-hopeful = (refl, refl)

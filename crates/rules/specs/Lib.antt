@@ -1,5 +1,6 @@
 pub mod Labels
 pub mod Permits
+pub mod Kinds
 pub mod Grammar
 pub mod Pretends
 pub mod Rules

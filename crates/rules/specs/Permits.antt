@@ -6,19 +6,20 @@ use Prim.Native.Nat.{ℕ}
 use lib.Dec.{leb}
 use lib.ListN.{length}
 use Rattle.lists.specs.Tests.{within, allOf, anyOf, same}
-use Rattle.characters.specs.Characters.{asciiSet}
+use Rattle.characters.specs.Characters.{asciiSet, anyKind}
+use Rattle.characters.specs.declared.Kind.{Kind}
 
 pub record Permits : Type 0 where
-  -- which code points are Japanese characters
-  pub japanese : ℕ → Bool
+  -- which code points are Japanese characters, and of which kind each is (document 02, K6)
+  pub kind : ℕ → Kind
   -- its prefecture labels
   pub middles : List (List ℕ)
   -- whether a name may have three labels
   pub three : Bool
 
--- a Japanese character of the edition (document 01, 'Characters'); asked here alone
+-- a Japanese character of the edition (document 01, 'Characters'): of any kind but none; asked here alone
 unfoldable pub jaChar : Permits → ℕ → Bool
-jaChar P c = P .japanese c
+jaChar P c = anyKind (P .kind c)
 
 -- what a label may hold
 unfoldable pub labelChar : Permits → ℕ → Bool

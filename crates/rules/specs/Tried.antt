@@ -9,8 +9,8 @@ use lib.ListN.{replicate}
 use Rattle.lists.specs.Tests.{within, allOf, anyOf, indexOf, elem, same}
 use Rattle.lists.specs.Rows.{first, without}
 use Rattle.characters.specs.KanjiBits.{kanjiBits}
-use Rattle.characters.specs.Characters.{alnum, hyphen, asciiSet, hiragana, katakana, signs, japaneseBy, kanjiWith}
-use Rattle.characters.specs.Characters.{japaneseWith}
+use Rattle.characters.specs.Characters.{alnum, hyphen, asciiSet, kinds, signs, stretch, kindAmong, kindBy, anyKind}
+use Rattle.characters.specs.Characters.{kanjiWith, kindWith}
 use Rattle.characters.specs.Replace.{ranges, rangeIn, halfKana, isHalf, replaceIn, replace}
 use Rattle.characters.specs.Compose.{voiced, repeats, halfVoiced, eitherKana, composed}
 use Rattle.normal.specs.Normal.{replacedFrom, compose, normalPlaced, normalForm, places}
@@ -143,9 +143,10 @@ table =
     []
 
 pub tried : map (said (todayWith kanjiBits)) table ≡ map meant table
-unfolding within allOf anyOf indexOf elem same first without alnum hyphen asciiSet hiragana katakana signs japaneseBy
-    kanjiWith japaneseWith ranges rangeIn halfKana isHalf replaceIn replace voiced repeats halfVoiced eitherKana
-    composed replacedFrom compose normalPlaced normalForm places period intoFirst labels jaChar labelChar isEmpty unfit
-    middleDot ordinary isJapanese beginsWithHyphen endsWithHyphen hyphenEdge short long hyphenPair pretends bareDot
-    labelRows jp nameRows frontRows textRows classOf verdict rules rulesBut prefectures middle todayWith
+unfolding within allOf anyOf indexOf elem same first without alnum hyphen asciiSet kinds signs stretch kindAmong
+    kindBy anyKind kanjiWith kindWith ranges rangeIn halfKana isHalf replaceIn replace voiced repeats halfVoiced
+    eitherKana composed replacedFrom compose normalPlaced normalForm places period intoFirst labels jaChar labelChar
+    isEmpty unfit middleDot ordinary isJapanese beginsWithHyphen endsWithHyphen hyphenEdge short long hyphenPair
+    pretends bareDot labelRows jp nameRows frontRows textRows classOf verdict rules rulesBut prefectures middle
+    todayWith
 tried = refl

@@ -11,6 +11,14 @@ pub enum Class {
     Prefecture,
 }
 
+// Which kinds of Japanese characters a label holds.
+pub struct Kinds {
+    pub hiragana: bool,
+    pub katakana: bool,
+    pub kanji: bool,
+    pub sign: bool,
+}
+
 // What the rules say of a text.
 pub struct Verdict {
     pub number: u8,

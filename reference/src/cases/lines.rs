@@ -1,9 +1,9 @@
 //! The gate's input of `desk`: document 01's example, minus signs, names that
-//! pretend to be encoded, every kind of bad line, long lines between good ones,
-//! many lines, and a last one without LF.
+//! pretend to be encoded, every set of kinds, every kind of bad line, long lines
+//! between good ones, many lines, and a last one without LF.
 
 use super::random::NameMaker;
-use super::{desk::in_utf8, SEED};
+use super::{desk::in_utf8, scripts, SEED};
 use crate::random::Random;
 
 const EXAMPLE: &str = "a1\tABC.JP\na2\tab.jp\na3\t\u{3042}.tokyo.jp\n";
@@ -19,6 +19,7 @@ pub fn input() -> Vec<u8> {
     let mut bytes = EXAMPLE.as_bytes().to_vec();
     bytes.extend(MINUS.bytes());
     bytes.extend(PAIRS.bytes());
+    bytes.extend(scripts::lines_of_sets().bytes());
     bytes.extend(bad_lines());
     for length in [1023, 1024, 1025, 70_000] {
         bytes.extend(b"before\tabc.jp\n");

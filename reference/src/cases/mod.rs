@@ -17,6 +17,7 @@ pub mod octets;
 pub mod own;
 pub mod pairs;
 pub mod random;
+pub mod scripts;
 pub mod tried;
 
 use crate::normal::{labels, normal_form};
@@ -129,5 +130,6 @@ pub fn all_lines() -> Vec<String> {
     hosts::add(&mut file);
     forms::add(&mut file);
     duplicates::add(&mut file);
+    scripts::add(&mut file);
     file.into_lines()
 }

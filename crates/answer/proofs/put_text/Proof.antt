@@ -2,7 +2,8 @@
 -- Assumes nothing.
 use native.Mathlib.Omega.{arith}
 use Rattle.rules.specs.Editions.{todayWith}
-use Rattle.answer.proofs.Placing.{front-zero, form-fits, accepted-puts, refused-puts}
+use Rattle.answer.proofs.Pieces.{before-length}
+use Rattle.answer.proofs.Placing.{form-fits, accepted-puts, refused-puts}
 use borrow.Author.Needs.{needs}
 use Rattle.answer.proofs.put_text.Statement.{statement}
 use Rattle.answer.proofs.put_text.Tie as tie
@@ -28,61 +29,49 @@ to-ascii-with-requires c κs = search needs
 cast-number : tie.Need-cast-number
 cast-number c = search needs
 
-class-letter-requires : tie.Need-class-letter-requires
-class-letter-requires c κs = search needs
-
-put-front-requires : tie.Need-put-front-requires
-put-front-requires c κs = search needs
-
-put-byte-requires : tie.Need-put-byte-requires
-put-byte-requires c κs = omega (arith, front-zero (c .before .before .before .before .before .before .before .before .before .before .before .before .before .before .before .before .args .id .now))
-
-put-byte-requires-2 : tie.Need-put-byte-requires-2
-put-byte-requires-2 c κs = omega (arith, front-zero (c .before .before .before .before .before .before .before .before .before .before .before .before .before .before .before .before .before .before .before .before .args .id .now))
-
-add-d : tie.Need-add-d
-add-d c =
-    let a = c .before .before .before .before .before .before .before .before .before .before .before .before .before .before .before .before .before .before .before .before .before .before .before .before .args in
-    let p = c .before .before .before .before .before .before .before .before .before .before .before .before .before .before .before .before .before .before .before .before .before .before .before .before .pre in
-    let t = c .before .before .before .before .before .before .before .before .before .before .before .before .before .before .before .before .before .before .to-ascii-with in
-    omega (arith, front-zero (a .id .now), form-fits (todayWith (a .kanji .now)) (a .id .now) (a .text .now) (a .out .now) (p .0) (p .1) (t .kept .1 .1 .0) (t .ensures))
-
-put-byte-requires-3 : tie.Need-put-byte-requires-3
-put-byte-requires-3 c κs =
-    let a = c .before .before .before .before .before .before .before .before .before .before .before .before .before .before .before .before .before .before .before .before .before .before .before .before .before .args in
-    let p = c .before .before .before .before .before .before .before .before .before .before .before .before .before .before .before .before .before .before .before .before .before .before .before .before .before .pre in
-    let t = c .before .before .before .before .before .before .before .before .before .before .before .before .before .before .before .before .before .before .before .to-ascii-with in
-    omega (arith, front-zero (a .id .now), form-fits (todayWith (a .kanji .now)) (a .id .now) (a .text .now) (a .out .now) (p .0) (p .1) (t .kept .1 .1 .0) (t .ensures))
+put-refused-requires : tie.Need-put-refused-requires
+put-refused-requires c κs = search needs
 
 same-length : tie.Need-same-length
 same-length c = search needs
 
 returns : tie.Need-returns
 returns c =
-    let a = c .before .before .before .before .before .before .before .before .before .before .before .before .before .before .before .before .before .before .before .before .before .before .before .before .before .before .before .before .args in
-    let p = c .before .before .before .before .before .before .before .before .before .before .before .before .before .before .before .before .before .before .before .before .before .before .before .before .before .before .before .before .pre in
-    let t = c .before .before .before .before .before .before .before .before .before .before .before .before .before .before .before .before .before .before .before .before .before .before .to-ascii-with in
-    accepted-puts (todayWith (a .kanji .now)) (a .id .now) (a .text .now) (a .out .now) (p .0) (p .1) (t .kept .1 .1 .0) (t .ensures) (c .before .before .before .before .before .before .before .before .before .before .before .before .before .before .before .before .before .before .if1 .taken) (c .before .before .before .before .before .before .before .before .before .before .before .before .before .before .before .before .before .class-letter .ensures) (c .before .before .before .before .before .before .before .before .before .before .before .before .before .before .before .put-front .ensures) (c .before .before .before .before .before .before .before .before .before .before .before .put-byte .ensures) (c .before .before .before .before .before .before .before .put-byte2 .ensures) (c .before .before .put-byte3 .ensures)
+    let a = c .before .before .before .before .before .before .before .before .before .before .before .before .before .before .args in
+    let p = c .before .before .before .before .before .before .before .before .before .before .before .before .before .before .pre in
+    let t = c .before .before .before .before .before .before .before .before .to-ascii-with in
+    refused-puts (todayWith (a .kanji .now)) (a .id .now) (a .text .now) (a .out .now) (p .0) (p .1) (t .kept .1 .1 .0) (t .ensures) (c .before .before .before .before .if1 .taken) (c .before .before .put-refused .ensures)
 
-slice-aggregate-put-line : tie.Need-slice-aggregate-put-line
-slice-aggregate-put-line c = search needs
+put-accepted-requires : tie.Need-put-accepted-requires
+put-accepted-requires c κs = search needs
 
-put-line-requires : tie.Need-put-line-requires
-put-line-requires c κs = search needs
+add-put-end : tie.Need-add-put-end
+add-put-end c =
+    let a = c .before .before .before .before .before .before .before .before .before .before .before .before .before .before .before .before .args in
+    let p = c .before .before .before .before .before .before .before .before .before .before .before .before .before .before .before .before .pre in
+    let t = c .before .before .before .before .before .before .before .before .before .before .to-ascii-with in
+    omega (arith, before-length (a .id .now) (t .result .class), form-fits (todayWith (a .kanji .now)) (a .id .now) (a .text .now) (a .out .now) (p .0) (p .1) (t .kept .1 .1 .0) (t .ensures))
+
+put-end-requires : tie.Need-put-end-requires
+put-end-requires c κs =
+    let a = c .before .before .before .before .before .before .before .before .before .before .before .before .before .before .before .before .args in
+    let p = c .before .before .before .before .before .before .before .before .before .before .before .before .before .before .before .before .pre in
+    let t = c .before .before .before .before .before .before .before .before .before .before .to-ascii-with in
+    omega (arith, before-length (a .id .now) (t .result .class), form-fits (todayWith (a .kanji .now)) (a .id .now) (a .text .now) (a .out .now) (p .0) (p .1) (t .kept .1 .1 .0) (t .ensures))
 
 same-length-2 : tie.Need-same-length-2
 same-length-2 c = search needs
 
 returns-2 : tie.Need-returns-2
 returns-2 c =
-    let a = c .before .before .before .before .before .before .before .before .before .before .before .before .before .before .before .args in
-    let p = c .before .before .before .before .before .before .before .before .before .before .before .before .before .before .before .pre in
-    let t = c .before .before .before .before .before .before .before .before .before .to-ascii-with in
-    refused-puts (todayWith (a .kanji .now)) (a .id .now) (a .text .now) (a .out .now) (p .0) (p .1) (t .kept .1 .1 .0) (t .ensures) (c .before .before .before .before .before .if1 .left) (c .before .before .put-line .ensures)
+    let a = c .before .before .before .before .before .before .before .before .before .before .before .before .before .before .before .before .before .before .before .args in
+    let p = c .before .before .before .before .before .before .before .before .before .before .before .before .before .before .before .before .before .before .before .pre in
+    let t = c .before .before .before .before .before .before .before .before .before .before .before .before .before .to-ascii-with in
+    accepted-puts (todayWith (a .kanji .now)) (a .id .now) (a .text .now) (a .out .now) (p .0) (p .1) (t .kept .1 .1 .0) (t .ensures) (c .before .before .before .before .before .before .before .before .before .if1 .left) (c .before .before .before .before .before .before .before .put-accepted .ensures) (c .before .before .put-end .ensures)
 
 pub put-text-spec : {M : Type 1} → statement M
 put-text-spec =
     tie.close
     (tie.spec add-start add-end sub-to-ascii-with part-to-ascii-with-start part-to-ascii-with-end to-ascii-with-requires
-    cast-number class-letter-requires put-front-requires put-byte-requires put-byte-requires-2 add-d put-byte-requires-3
-    same-length returns slice-aggregate-put-line put-line-requires same-length-2 returns-2)
+    cast-number put-refused-requires same-length returns put-accepted-requires add-put-end put-end-requires same-length-2
+    returns-2)

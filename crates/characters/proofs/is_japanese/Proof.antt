@@ -1,21 +1,46 @@
--- `is_japanese` meets its contract: `KANJI` is the table of the specification, and lent that table the kanji are those of the list.
+-- `is_japanese` meets its contract: each kind but none is.
 -- Assumes nothing.
-use mathlib.Core.Path.{_∙_}
-use Rattle.characters.specs.KanjiBits.{kanjiBits}
-use Rattle.characters.proofs.Lent.{lent}
 use borrow.Author.Needs.{needs}
+use Rattle.characters.specs.Characters.{anyKind}
 use Rattle.characters.proofs.is_japanese.Statement.{statement}
 use Rattle.characters.proofs.is_japanese.Tie as tie
 
-slice-aggregate-is-japanese-with : tie.Need-slice-aggregate-is-japanese-with
-slice-aggregate-is-japanese-with c = search needs
+enum-told : tie.Need-enum-told
+enum-told c = search needs
 
-is-japanese-with-requires : tie.Need-is-japanese-with-requires
-is-japanese-with-requires c κs = search needs
+enum-told-2 : tie.Need-enum-told-2
+enum-told-2 c = search needs
+
+enum-told-3 : tie.Need-enum-told-3
+enum-told-3 c = search needs
+
+enum-told-4 : tie.Need-enum-told-4
+enum-told-4 c = search needs
+
+enum-told-5 : tie.Need-enum-told-5
+enum-told-5 c = search needs
 
 returns : tie.Need-returns
-unfolding kanjiBits
-returns c = c .is-japanese-with .ensures ∙ lent _
+unfolding anyKind
+returns c = search needs
+
+returns-2 : tie.Need-returns-2
+unfolding anyKind
+returns-2 c = search needs
+
+returns-3 : tie.Need-returns-3
+unfolding anyKind
+returns-3 c = search needs
+
+returns-4 : tie.Need-returns-4
+unfolding anyKind
+returns-4 c = search needs
+
+returns-5 : tie.Need-returns-5
+unfolding anyKind
+returns-5 c = search needs
 
 pub is-japanese-spec : {M : Type 1} → statement M
-is-japanese-spec = tie.close (tie.spec slice-aggregate-is-japanese-with is-japanese-with-requires returns)
+is-japanese-spec =
+    tie.close
+    (tie.spec enum-told enum-told-2 enum-told-3 enum-told-4 enum-told-5 returns returns-2 returns-3 returns-4 returns-5)

@@ -11,11 +11,14 @@ is-ascii-requires c κs = search needs
 returns : tie.Need-returns
 returns c = in-ascii _ _ (c .before .if1 .taken) (c .is-ascii .ensures)
 
-is-japanese-with-requires : tie.Need-is-japanese-with-requires
-is-japanese-with-requires c κs = search needs
+kind-with-requires : tie.Need-kind-with-requires
+kind-with-requires c κs = search needs
+
+is-japanese-requires : tie.Need-is-japanese-requires
+is-japanese-requires c κs = search needs
 
 returns-2 : tie.Need-returns-2
-returns-2 c = in-japanese _ _ (c .before .if1 .left) (c .is-japanese-with .ensures)
+returns-2 c = in-japanese _ _ (c .before .before .if1 .left) (c .before .kind-with .ensures) (c .is-japanese .ensures)
 
 pub in-label-with-spec : {M : Type 1} → statement M
-in-label-with-spec = tie.close (tie.spec is-ascii-requires returns is-japanese-with-requires returns-2)
+in-label-with-spec = tie.close (tie.spec is-ascii-requires returns kind-with-requires is-japanese-requires returns-2)

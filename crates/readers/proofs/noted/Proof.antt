@@ -1,5 +1,7 @@
 -- `noted` meets its contract: each part is what was noted or what the character adds.
 -- Assumes nothing.
+use mathlib.Core.Path.{ap, _∙_}
+use Rattle.characters.specs.Characters.{anyKind}
 use Rattle.rules.specs.Permits.{jaChar}
 use Rattle.rules.specs.Editions.{todayWith}
 use Rattle.readers.proofs.Reading.{note-is}
@@ -7,8 +9,11 @@ use borrow.Author.Needs.{needs}
 use Rattle.readers.proofs.noted.Statement.{statement}
 use Rattle.readers.proofs.noted.Tie as tie
 
-is-japanese-with-requires : tie.Need-is-japanese-with-requires
-is-japanese-with-requires c κs = search needs
+kind-with-requires : tie.Need-kind-with-requires
+kind-with-requires c κs = search needs
+
+is-japanese-requires : tie.Need-is-japanese-requires
+is-japanese-requires c κs = search needs
 
 either-requires : tie.Need-either-requires
 either-requires c κs = search needs
@@ -22,15 +27,15 @@ is-ordinary-with-requires c κs = search needs
 either-requires-3 : tie.Need-either-requires-3
 either-requires-3 c κs = search needs
 
-add-t8 : tie.Need-add-t8
-add-t8 c = search needs
+add-t9 : tie.Need-add-t9
+add-t9 c = search needs
 
 returns : tie.Need-returns
 unfolding todayWith jaChar
-returns c = note-is _ _ _ (c .before .before .before .before .before .is-japanese-with .ensures) (c .before .before .before .before .either .ensures) (c .before .before .before .either2 .ensures) (c .before .before .is-ordinary-with .ensures) (c .before .either3 .ensures)
+returns c = note-is _ _ _ (c .before .before .before .before .before .is-japanese .ensures ∙ ap anyKind (c .before .before .before .before .before .before .kind-with .ensures)) (c .before .before .before .before .either .ensures) (c .before .before .before .either2 .ensures) (c .before .before .is-ordinary-with .ensures) (c .before .either3 .ensures)
 
 pub noted-spec : {M : Type 1} → statement M
 noted-spec =
     tie.close
-    (tie.spec is-japanese-with-requires either-requires either-requires-2 is-ordinary-with-requires either-requires-3
-    add-t8 returns)
+    (tie.spec kind-with-requires is-japanese-requires either-requires either-requires-2 is-ordinary-with-requires either-requires-3
+    add-t9 returns)

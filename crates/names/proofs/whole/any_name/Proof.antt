@@ -68,16 +68,33 @@ copy-requires c κs =
     let l = piece-length _ _ e z t y in
     omega (arith, c .before .before .before .before .before .before .put-labels .kept .1 .1 .0, c .before .before .before .before .before .before .before .before .before .before .before .before .before .before .before .before .before .before .pre)
 
+sub-leftmost-kinds : tie.Need-sub-leftmost-kinds
+sub-leftmost-kinds c = search needs
+
+part-leftmost-kinds-start : tie.Need-part-leftmost-kinds-start
+part-leftmost-kinds-start c = search needs
+
+part-leftmost-kinds-end : tie.Need-part-leftmost-kinds-end
+part-leftmost-kinds-end c =
+    let e = c .before .before .before .before .before .before .before .before .before .before .before .before .before .before .before .before .judge-into in
+    let p = accepted-as _ _ (e .ensures) (c .before .before .before .before .before .before .before .before .before .before .before .before .before .if1 .left) in
+    omega (arith, p .few, e .kept .1 .1 .0)
+
+leftmost-kinds-requires : tie.Need-leftmost-kinds-requires
+leftmost-kinds-requires c κs = search needs
+
 same-length : tie.Need-same-length
 same-length c = search needs
 
 returns-3 : tie.Need-returns-3
-returns-3 c = finished _ _ (c .before .before .before .before .before .before .before .before .before .before .before .before .before .before .before .before .judge-into .ensures) (c .before .before .before .before .before .before .before .before .before .before .before .before .before .if1 .left) (c .before .before .before .before .before .before .before .before .before .put-labels .ensures) _ (c .before .before .before .before .before .before .before .before .before .before .before .before .before .before .before .before .before .before .before .before .before .pre) (not-false _ (c .before .before .before .before .before .before .if2 .left)) refl (c .before .before .copy .ensures .1)
+returns-3 c =
+    finished _ _ (c .before .before .before .before .before .before .before .before .before .before .before .before .before .before .before .before .before .before .judge-into .ensures) (c .before .before .before .before .before .before .before .before .before .before .before .before .before .before .before .if1 .left) (c .before .before .before .before .before .before .before .before .before .before .before .put-labels .ensures) _ (c .before .before .before .before .before .before .before .before .before .before .before .before .before .before .before .before .before .before .before .before .before .before .before .pre) (not-false _ (c .before .before .before .before .before .before .before .before .if2 .left)) refl
+    (c .before .before .before .before .copy .ensures .1) (c .leftmost-kinds .ensures)
 
 pub any-name-spec : {M : Type 1} → statement M
 any-name-spec =
     tie.close
     (tie.spec slice-aggregate-judge-into judge-into-requires refused-form-requires returns slice-aggregate-buffer
     sub-put-labels part-put-labels-start part-put-labels-end slice-aggregate-put-labels put-labels-requires
-    refused-form-requires-2 returns-2 slice-aggregate-octets sub-copy part-copy-start part-copy-end copy-requires same-length
-    returns-3)
+    refused-form-requires-2 returns-2 slice-aggregate-octets sub-copy part-copy-start part-copy-end copy-requires
+    sub-leftmost-kinds part-leftmost-kinds-start part-leftmost-kinds-end leftmost-kinds-requires same-length returns-3)

@@ -30,17 +30,17 @@ returns-2 c = search needs
 sub-n : tie.Need-sub-n
 sub-n c = let s = ending-sizes _ (sym (c .before .ends-in-jp .ensures) ∙ not-false _ (c .if2 .left)) in omega arith
 
-sub-all-in-label : tie.Need-sub-all-in-label
-sub-all-in-label c = search needs
+sub-held-with : tie.Need-sub-held-with
+sub-held-with c = search needs
 
-part-all-in-label-start : tie.Need-part-all-in-label-start
-part-all-in-label-start c = search needs
+part-held-with-start : tie.Need-part-held-with-start
+part-held-with-start c = search needs
 
-part-all-in-label-end : tie.Need-part-all-in-label-end
-part-all-in-label-end c = search needs
+part-held-with-end : tie.Need-part-held-with-end
+part-held-with-end c = search needs
 
-all-in-label-requires : tie.Need-all-in-label-requires
-all-in-label-requires c κs = search needs
+held-with-requires : tie.Need-held-with-requires
+held-with-requires c κs = search needs
 
 any-name-requires-2 : tie.Need-any-name-requires-2
 any-name-requires-2 c κs = search needs
@@ -61,18 +61,18 @@ part-usual-name-end : tie.Need-part-usual-name-end
 part-usual-name-end c = search needs
 
 usual-name-requires : tie.Need-usual-name-requires
-usual-name-requires c κs = (usual-label _ (sym (c .before .before .before .before .before .before .ends-in-jp .ensures) ∙ not-false _ (c .before .before .before .before .before .if2 .left)) _ (sym (c .before .before .before .all-in-label .ensures) ∙ not-false _ (c .before .before .if3 .left)), c .before .before .before .before .before .before .before .if1 .left)
+usual-name-requires c κs = (usual-label _ (sym (c .before .before .before .before .before .before .before .ends-in-jp .ensures) ∙ not-false _ (c .before .before .before .before .before .before .if2 .left)) _ (c .before .before .before .before .held-with .ensures) (not-false _ (c .before .before .if3 .left)), c .before .before .before .before .before .before .before .before .if1 .left)
 
 same-length-3 : tie.Need-same-length-3
 same-length-3 c = search needs
 
 returns-4 : tie.Need-returns-4
-returns-4 c = as-text _ (sym (c .before .before .before .before .before .before .before .before .before .ends-in-jp .ensures) ∙ not-false _ (c .before .before .before .before .before .before .before .before .if2 .left)) _ (c .before .before .usual-name .ensures)
+returns-4 c = as-text _ (sym (c .before .before .before .before .before .before .before .before .before .before .ends-in-jp .ensures) ∙ not-false _ (c .before .before .before .before .before .before .before .before .before .if2 .left)) _ (c .before .before .usual-name .ensures)
 
 pub to-ascii-with-spec : {M : Type 1} → statement M
 to-ascii-with-spec =
     tie.close
     (tie.spec refused-form-requires returns ends-in-jp-requires any-name-requires same-length returns-2 sub-n
-    sub-all-in-label part-all-in-label-start part-all-in-label-end all-in-label-requires any-name-requires-2
+    sub-held-with part-held-with-start part-held-with-end held-with-requires any-name-requires-2
     same-length-2 returns-3 sub-usual-name part-usual-name-start part-usual-name-end usual-name-requires same-length-3
     returns-4)

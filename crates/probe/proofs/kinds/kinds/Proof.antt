@@ -19,17 +19,17 @@ loop-holds c = search needs
 put-gap-requires : tie.Need-put-gap-requires Inv-loop μ-loop
 put-gap-requires c κs = search needs
 
-mul-put-kind : tie.Need-mul-put-kind Inv-loop μ-loop
-mul-put-kind c = search needs
+mul-put-said : tie.Need-mul-put-said Inv-loop μ-loop
+mul-put-said c = search needs
 
-shared-slice-read-put-kind : tie.Need-shared-slice-read-put-kind Inv-loop μ-loop
-shared-slice-read-put-kind c = search needs
+shared-slice-read-put-said : tie.Need-shared-slice-read-put-said Inv-loop μ-loop
+shared-slice-read-put-said c = search needs
 
 after-requires : tie.Need-after-requires Inv-loop μ-loop
 after-requires c κs = search needs
 
-put-kind-requires : tie.Need-put-kind-requires Inv-loop μ-loop
-put-kind-requires c κs = search needs
+put-said-requires : tie.Need-put-said-requires Inv-loop μ-loop
+put-said-requires c κs = search needs
 
 add-i : tie.Need-add-i Inv-loop μ-loop
 add-i c = search needs
@@ -49,5 +49,5 @@ returns c = search needs
 pub kinds-spec : {M : Type 1} → statement M
 kinds-spec =
     tie.close
-    (tie.spec Inv-loop μ-loop loop-holds put-gap-requires mul-put-kind shared-slice-read-put-kind after-requires
-    put-kind-requires add-i loop-less loop-again same-length returns)
+    (tie.spec Inv-loop μ-loop loop-holds put-gap-requires mul-put-said shared-slice-read-put-said after-requires
+    put-said-requires add-i loop-less loop-again same-length returns)

@@ -1,0 +1,323 @@
+//! Which scripts a name uses (document 02, K6). The kinds are told here by another
+//! route: the row of JIS X 0208 in which a character stands.
+
+use reference::cases::random::{accepted_lines, NameMaker};
+use reference::chars::{self, Kind};
+use reference::random::Random;
+use reference::{batch, cases, coder, name, normal, points, probe};
+use std::collections::{BTreeSet, HashMap};
+
+/// The letters in the order in which they are printed.
+const LETTERS: &str = "HKJS";
+
+/// The first 28 cells of row 1, and rows 4 and 5.
+const ROW_1: &str = "　、。，．・：；？！゛゜´｀¨＾￣＿ヽヾゝゞ〃仝々〆〇ー";
+const ROW_4: &str = "ぁあぃいぅうぇえぉおかがきぎくぐけげこごさざしじすずせぜそぞただちぢっつづてでとど\
+    なにぬねのはばぱひびぴふぶぷへべぺほぼぽまみむめもゃやゅゆょよらりるれろゎわゐゑをん";
+const ROW_5: &str = "ァアィイゥウェエォオカガキギクグケゲコゴサザシジスズセゼソゾタダチヂッツヅテデトド\
+    ナニヌネノハバパヒビピフブプヘベペホボポマミムメモャヤュユョヨラリルレロヮワヰヱヲンヴヵヶ";
+
+/// The cells of row 1 that names may have: the middle dot, the marks that repeat,
+/// and the rest but for 3003 in cell 23.
+fn is_sign(cell: usize) -> bool {
+    [6, 19, 20, 21, 22, 24, 25, 26, 27, 28].contains(&cell)
+}
+
+/// Each Japanese character with the letter of its kind, by row and cell.
+fn by_rows() -> Vec<(u32, char)> {
+    let of_row = |row: &str, letter: char| row.chars().map(move |c| (u32::from(c), letter)).collect();
+    let signs = ROW_1.chars().zip(1..).filter(|(_, cell)| is_sign(*cell)).map(|(c, _)| (u32::from(c), 'S'));
+    let mut found: Vec<(u32, char)> = signs.collect();
+    found.extend::<Vec<_>>(of_row(ROW_4, 'H'));
+    found.extend::<Vec<_>>(of_row(ROW_5, 'K'));
+    for line in include_str!("../kanji.txt").lines() {
+        let (row, kanji) = line.split_once(' ').unwrap();
+        assert!((16..=84).contains(&row.parse::<u8>().unwrap()));
+        found.extend::<Vec<_>>(of_row(kanji, 'J'));
+    }
+    found
+}
+
+/// The kinds of some characters as a word, by their rows.
+fn word(characters: &[u32], letter_of: &HashMap<u32, char>) -> String {
+    let found: Vec<&char> = characters.iter().filter_map(|code| letter_of.get(code)).collect();
+    let word: String = LETTERS.chars().filter(|letter| found.contains(&letter)).collect();
+    if word.is_empty() {
+        "-".to_string()
+    } else {
+        word
+    }
+}
+
+/// The sixteen words.
+fn words() -> BTreeSet<String> {
+    let of_set = |set: usize| LETTERS.chars().enumerate().filter(move |(at, _)| set >> at & 1 == 1);
+    let mut words: BTreeSet<String> =
+        (1..16).map(|set| of_set(set).map(|(_, letter)| letter).collect()).collect();
+    words.insert("-".to_string());
+    words
+}
+
+/// Every code point to 2FFFF, and others past it.
+fn code_points() -> impl Iterator<Item = u32> {
+    let alike = [0x1_0000, 0x10_0000, 0x8000_0000, 0xFFFF_0000].into_iter();
+    let alike = alike.flat_map(|high| points("あアー亜仝").into_iter().map(move |low| high | low));
+    (0..0x30000).chain((0x30000..=0x11_FFFF).step_by(37)).chain(alike).chain([u32::MAX - 1, u32::MAX])
+}
+
+#[test]
+fn the_kind_of_a_character_is_that_of_its_row() {
+    let letter_of: HashMap<u32, char> = by_rows().into_iter().collect();
+    for code in code_points() {
+        let letter = *letter_of.get(&code).unwrap_or(&'-');
+        assert_eq!(Kind::letter(chars::kind(code)), letter, "{code:x}");
+        assert_eq!(chars::letters(&chars::kinds(&[code])), letter.to_string(), "{code:x}");
+    }
+}
+
+/// The counts of document 01. They add up to as many characters as there are, so
+/// none has two kinds.
+#[test]
+fn each_kind_has_its_count_and_no_character_has_two() {
+    let counted = |letter: char| by_rows().iter().filter(|one| one.1 == letter).count();
+    assert_eq!(LETTERS.chars().map(counted).collect::<Vec<_>>(), [83, 86, 6355, 10]);
+    assert_eq!(by_rows().iter().map(|one| one.0).collect::<BTreeSet<_>>().len(), 6534);
+    let own = |kind: Kind| (0..0x30000).filter(|code| chars::kind(*code) == Some(kind)).count();
+    assert_eq!([Kind::Hiragana, Kind::Katakana, Kind::Kanji, Kind::Sign].map(own), [83, 86, 6355, 10]);
+}
+
+/// What is a sign is of no other kind, wherever it stands among the code points.
+#[test]
+fn signs_are_no_kana_and_no_kanji() {
+    for code in [0x30FB, 0x30FD, 0x30FE, 0x309D, 0x309E, 0x4EDD, 0x3005, 0x3006, 0x3007, 0x30FC] {
+        assert_eq!(chars::kind(code), Some(Kind::Sign), "{code:x}");
+    }
+    for (code, kind) in [
+        (0x3041, Kind::Hiragana),
+        (0x3093, Kind::Hiragana),
+        (0x30A1, Kind::Katakana),
+        (0x30F4, Kind::Katakana),
+        (0x30F6, Kind::Katakana),
+        (0x4E00, Kind::Kanji),
+        (0x9FA0, Kind::Kanji),
+    ] {
+        assert_eq!(chars::kind(code), Some(kind), "{code:x}");
+    }
+    for code in
+        [0x3003, 0x3040, 0x3094, 0x309B, 0x309C, 0x30A0, 0x30F7, 0x30FF, 0x4DFF, 0x9FA1, 0xFF71, 0xFF70]
+    {
+        assert_eq!(chars::kind(code), None, "{code:x}");
+    }
+}
+
+/// Yes or no is what it was: membership in the set that document 01 lists.
+#[test]
+fn japanese_is_any_kind_but_none() {
+    let mut listed: BTreeSet<u32> = (0x3041..=0x3093).chain(0x30A1..=0x30F6).collect();
+    listed.extend(chars::kanji());
+    listed.extend(chars::SIGNS);
+    assert_eq!(listed.len(), 6534);
+    for code in code_points() {
+        assert_eq!(chars::is_japanese(code), listed.contains(&code), "{code:x}");
+        assert_eq!(chars::japanese().contains_key(&code), listed.contains(&code), "{code:x}");
+    }
+}
+
+/// Half-width kana become katakana, but for the two that become signs and for the
+/// marks. A base and what a mark makes of it are of one kind.
+#[test]
+fn the_normal_form_gives_half_width_kana_their_kind() {
+    for half in 0xFF65..=0xFF9F {
+        let kind = match half {
+            0xFF65 | 0xFF70 => Some(Kind::Sign),
+            0xFF9E | 0xFF9F => None,
+            _ => Some(Kind::Katakana),
+        };
+        assert_eq!(chars::kind(half), None, "{half:x}");
+        assert_eq!(chars::kind(normal::replaced(half)), kind, "{half:x}");
+    }
+    for ((base, mark), whole) in normal::compositions() {
+        assert!(chars::kind(*base).is_some() && chars::kind(*mark).is_none());
+        assert_eq!(chars::kind(*base), chars::kind(*whole), "{base:x}");
+    }
+}
+
+/// The fields of the line that the batch answers to a name in UTF-8.
+fn answered(name: &str) -> Vec<String> {
+    let line = batch::answer_line(format!("k\t{name}").as_bytes());
+    line.split('\t').map(String::from).collect()
+}
+
+/// The sixth field of document 02 where the name is a label and ".jp".
+#[test]
+fn names_that_k6_decides() {
+    for (label, kinds) in [
+        ("abc", "-"),
+        ("HKJS", "-"),
+        ("\u{3042}", "H"),
+        ("\u{30A2}\u{3042}", "HK"),
+        ("\u{3005}\u{4E9C}\u{30A2}\u{3042}", "HKJS"),
+        ("\u{30FC}", "S"),
+        ("\u{FF70}", "S"),
+        ("\u{FF76}\u{FF9E}", "K"),
+        ("\u{FF76}\u{FF70}", "KS"),
+        ("\u{309D}\u{309B}", "S"),
+        ("\u{30FD}\u{FF9E}", "S"),
+        ("\u{30A6}\u{309B}", "K"),
+        ("\u{30FB}\u{4E9C}", "JS"),
+        ("\u{4EDD}", "S"),
+        ("\u{4EDD}\u{4E00}", "JS"),
+        ("\u{3007}\u{3007}a-b", "S"),
+    ] {
+        assert_eq!(answered(&format!("{label}.jp"))[5], kinds, "{label}");
+        // The middle label is no part of it.
+        assert_eq!(answered(&format!("{label}.\u{6771}\u{4EAC}.jp"))[5], kinds, "{label}");
+    }
+}
+
+/// The leftmost label, back from the ASCII form that the batch prints.
+fn leftmost(form: &str) -> Vec<u32> {
+    let label = form.split('.').next().unwrap();
+    match label.starts_with("xn--") {
+        true => coder::decode(label.as_bytes()).unwrap(),
+        false => points(label),
+    }
+}
+
+/// Of random names, the sixth field says what the leftmost label holds, decoded
+/// from the fifth. The whole ASCII form tells the same kinds, and so does the
+/// label by itself.
+#[test]
+fn the_sixth_field_is_of_the_leftmost_label() {
+    let letter_of: HashMap<u32, char> = by_rows().into_iter().collect();
+    let mut seen = BTreeSet::new();
+    for line in accepted_lines(20_000, 6) {
+        let text = cases::numbers_of(&line);
+        let typed: String = text.iter().filter_map(|code| char::from_u32(*code)).collect();
+        let fields = answered(&typed);
+        assert_eq!((fields.len(), &fields[1][..]), (6, "0"), "{typed}");
+        let label = leftmost(&fields[4]);
+        assert_eq!(fields[5], word(&label, &letter_of), "{typed}");
+        assert_eq!(probe::answer(line.as_bytes()).split(' ').nth(3), Some(&fields[5][..]), "{typed}");
+        let of_label = cases::probe_line('Q', 0, &cases::labels::numbers(0, 3, 0, &label));
+        let held = format!("1{}", fields[5]);
+        assert_eq!(probe::answer(of_label.as_bytes()).split(' ').nth(5), Some(&held[..]), "{typed}");
+        seen.insert(fields[5].clone());
+    }
+    assert_eq!(seen, words());
+}
+
+/// A refused name has none, by the batch and by the whole ASCII form, though
+/// most of these hold some.
+#[test]
+fn refused_names_have_no_kinds() {
+    let mut random = Random::seeded(66);
+    let maker = NameMaker::default();
+    let mut holding = 0;
+    for _ in 0..20_000 {
+        let typed = maker.typed_name(&mut random);
+        let text = maker.edit(&typed, &mut random);
+        let Err(refusal) = name::check(&text) else { continue };
+        let answer = probe::answer(cases::probe_line('A', 192, &text).as_bytes());
+        assert_eq!(answer, format!("{} {} - - 0", refusal.number, refusal.place));
+        if text.iter().all(|code| char::from_u32(*code).is_some_and(|c| !"\t".contains(c))) {
+            let name: String = text.iter().filter_map(|code| char::from_u32(*code)).collect();
+            assert_eq!(answered(&name)[3..], ["-", "-", "-"], "{name}");
+        }
+        holding += usize::from(!chars::kinds(&normal::labels(&normal::normal_form(&text))[0]).is_empty());
+    }
+    assert!(holding > 5_000, "{holding} names hold kinds");
+}
+
+#[test]
+fn bad_lines_have_six_fields() {
+    for line in ["", "\u{3042}.jp", "\t\u{3042}.jp", "k\t\u{3042}.jp\t", "\u{3042}\t\u{30A2}.jp"] {
+        assert_eq!(batch::answer_line(line.as_bytes()), "-\t16\t0\t-\t-\t-");
+    }
+    assert_eq!(batch::answer_line(b"k\t\xE3\x81\x82\xE3.jp"), "-\t16\t0\t-\t-\t-");
+}
+
+/// Class and kinds of the accepted names in the answer to a case.
+fn told(line: &str) -> Vec<(String, String)> {
+    let answer = probe::answer(line.as_bytes());
+    let of_octets = |hex: &str| {
+        let octets: Vec<u8> = hex.split(' ').filter_map(|hex| u8::from_str_radix(hex, 16).ok()).collect();
+        let output = String::from_utf8(octets).unwrap();
+        let fields = output.lines().map(|line| line.split('\t').map(String::from).collect::<Vec<_>>());
+        let accepted = fields.filter(|fields| fields[1] == "0");
+        accepted.map(|fields| (fields[3].clone(), fields[5].clone())).collect()
+    };
+    let words: Vec<&str> = answer.split(' ').collect();
+    match (&line[..1], words[0]) {
+        ("A" | "a", "0") => vec![(words[2].to_string(), words[3].to_string())],
+        // Of a label that holds what no label may, no kinds are told.
+        ("Q", _) => {
+            words[5].strip_prefix('1').map(|kinds| (String::new(), kinds.to_string())).into_iter().collect()
+        }
+        ("B", _) => of_octets(&answer),
+        ("W", "1") => of_octets(&words[2..].join(" ")),
+        _ => Vec::new(),
+    }
+}
+
+/// Each of the sixteen sets comes up with each call that tells kinds, in names of
+/// either class, and is told in one way only.
+#[test]
+fn every_set_comes_up_with_each_call_that_tells_kinds() {
+    let lines = cases::all_lines();
+    for call in ["A", "a", "W", "B", "Q"] {
+        let of_call = lines.iter().filter(|line| line.starts_with(call));
+        let found: BTreeSet<(String, String)> = of_call.flat_map(|line| told(line)).collect();
+        let classes: &[&str] = if call == "Q" { &[""] } else { &["G", "P"] };
+        let wanted =
+            classes.iter().flat_map(|class| words().into_iter().map(|word| (class.to_string(), word)));
+        assert_eq!(found, wanted.collect(), "{call}");
+    }
+}
+
+/// Every set is in the input of `desk` too.
+#[test]
+fn every_set_comes_up_in_the_input_of_desk() {
+    let output = String::from_utf8(batch::desk(&cases::lines::input())).unwrap();
+    let fields: Vec<Vec<&str>> = output.lines().map(|line| line.split('\t').collect()).collect();
+    assert!(fields.iter().all(|fields| fields.len() == 6));
+    let own = |word: &str| fields.iter().any(|fields| fields[0].starts_with('k') && fields[5] == word);
+    assert!(words().iter().all(|word| own(word)));
+    let refused = fields.iter().filter(|fields| fields[1] != "0");
+    assert!(refused.into_iter().all(|fields| fields[3..] == ["-", "-", "-"]));
+}
+
+/// Each refusal of a name whose leftmost label holds kinds comes up with each call
+/// that tells them. Those of 8 and 17 are ASCII labels; there the middle label does.
+#[test]
+fn refused_names_of_the_cases_hold_kinds() {
+    let lines = cases::all_lines();
+    for call in ["A", "a", "W", "B"] {
+        let mut seen = BTreeSet::new();
+        for line in lines.iter().filter(|line| line.starts_with(call)) {
+            for text in texts_of(line) {
+                let Err(refusal) = name::check(&text) else { continue };
+                let labels = normal::labels(&normal::normal_form(&text));
+                let asked = if [8, 17].contains(&refusal.number) { labels.get(1) } else { labels.first() };
+                if asked.is_some_and(|label| !chars::kinds(label).is_empty()) {
+                    seen.insert(refusal.number);
+                }
+            }
+        }
+        assert_eq!(seen, [3, 4, 5, 6, 7, 8, 9, 10, 11, 12, 17].into(), "{call}");
+    }
+}
+
+/// The names that a case puts to a call, of a batch those of its good lines.
+fn texts_of(line: &str) -> Vec<Vec<u32>> {
+    let numbers = cases::numbers_of(line);
+    if line.starts_with(['A', 'a']) {
+        return vec![numbers];
+    }
+    let octets: Vec<u8> = numbers.iter().map(|number| *number as u8).collect();
+    let name = |line: &[u8]| {
+        let line = std::str::from_utf8(line).ok()?;
+        line.split_once('\t').filter(|(_, name)| !name.contains('\t')).map(|(_, name)| points(name))
+    };
+    octets.split(|octet| *octet == b'\n').filter_map(name).collect()
+}
