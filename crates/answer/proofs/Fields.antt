@@ -98,7 +98,7 @@ module _ (id : List ℕ) (none : anyOf ends id ≡ false) (n p : ℕ) (k : Class
   unfolding answerLine
   laid = simp append-assoc
 
-  pub second : fieldOf 1 (answerLine id n p k form ks) ≡ decimal n
+  second : fieldOf 1 (answerLine id n p k form ks) ≡ decimal n
   unfolding ends tab lf
   second = ap (fieldOf 1) laid ∙ next id none 0x09 _ refl 0 ∙ here (decimal n) (number-none n) 0x09 _ refl
 
@@ -112,11 +112,11 @@ module _ (id : List ℕ) (none : anyOf ends id ≡ false) (n p : ℕ) (k : Class
         ∙ next (decimal p) (number-none p) 0x09 _ refl (suc m)
         ∙ next (letter k ∷ []) (letter-none k) 0x09 _ refl m
 
-    pub fifth : fieldOf 4 (answerLine id n p k form ks) ≡ form
+    fifth : fieldOf 4 (answerLine id n p k form ks) ≡ form
     unfolding ends tab lf
     fifth = from-form 0 ∙ here form f 0x09 _ refl
 
-    pub sixth : fieldOf 5 (answerLine id n p k form ks) ≡ kindField ks
+    sixth : fieldOf 5 (answerLine id n p k form ks) ≡ kindField ks
     unfolding ends tab lf
     sixth = from-form 1 ∙ next form f 0x09 _ refl 0 ∙ here (kindField ks) (kinds-none ks) 0x0A [] refl
 
@@ -128,7 +128,7 @@ leftmostOf line = getD (labels (normalForm (textOf line))) 0 []
 
 module _ (P : Permits) (line : List ℕ) where
   module _ (g : badLine line ≡ false) where
-    pub number-field : fieldOf 1 (answerTo P line) ≡ decimal (answered P (textOf line) .number)
+    number-field : fieldOf 1 (answerTo P line) ≡ decimal (answered P (textOf line) .number)
     unfolding answerTo goodAnswer verdict
     number-field = rw g (second (idOf line) (id-none line g) _ _ _ _ _)
 
@@ -152,9 +152,9 @@ module _ (P : Permits) (line : List ℕ) where
       go false g = (g, sym (number-said P (textOf line)) ∙ ap (reading 0) (sym (number-field g) ∙ e))
 
   -- of any other line the sixth field is a hyphen
-  pub refused-field : (fieldOf 1 (answerTo P line) ≡ 0x30 ∷ [] → ⊥) → fieldOf 5 (answerTo P line) ≡ 0x2D ∷ []
+  pub sixth-refused : (fieldOf 1 (answerTo P line) ≡ 0x30 ∷ [] → ⊥) → fieldOf 5 (answerTo P line) ≡ 0x2D ∷ []
   unfolding ends tab lf anyOf answerTo badAnswer refusedAnswer goodAnswer verdict kindsSaid kindField kindLetters isEmpty decimal decimalBy
-  refused-field h = go (badLine line) refl
+  sixth-refused h = go (badLine line) refl
     where
       go : (b : Bool) → badLine line ≡ b → fieldOf 5 (answerTo P line) ≡ 0x2D ∷ []
       go true g = rw g (sixth (0x2D ∷ []) refl 16 0 None (0x2D ∷ []) noKinds refl)

@@ -3,23 +3,25 @@
 -- Assumes nothing.
 use mathlib.Core.Path.{_≡_, refl, sym, ap, _∙_}
 use mathlib.Core.Bool.{Bool, true, false}
-use mathlib.Core.List.{List, [], _∷_, _++_, append-nil, append-assoc}
+use mathlib.Core.List.{List, [], _∷_, _++_, append-assoc}
 use mathlib.Core.Logic.{⊎-elim}
 use Prim.Native.Nat.{ℕ, _+_, _/_, _%_, _≤_, _<_}
 use native.Mathlib.Omega.{arith}
 use lib.Dec.{leb, ltb}
-use lib.ListN.{length, take, drop, length-append, take-append-drop}
-use borrow.Author.Tests.{lt-ltb, le-ltb}
+use lib.ListN.{length, length-append}
+use borrow.Author.Tests.{ne-eqb, lt-ltb, le-ltb}
 use Rattle.lists.specs.Tests.{pick, allOf}
 use Rattle.lists.specs.Front.{Puts}
-use Rattle.lists.proofs.Laws.{lt-or-le, by-test, all-append}
+use Rattle.lists.proofs.Laws.{lt-or-le, by-test, all-append, no-entries}
+use Rattle.lists.proofs.Pieces.{stays}
 use Rattle.characters.specs.Characters.{kindLetter}
 use Rattle.characters.specs.declared.Kind.{Kind}
 use Rattle.characters.specs.declared.Kind.the-variants.{Hiragana, Katakana, Kanji, Sign, None}
 use Rattle.rules.specs.Permits.{isEmpty}
+use Rattle.rules.proofs.Steps.{empty-is}
 use Rattle.rules.specs.declared.Class.{Class}
 use Rattle.rules.specs.declared.Kinds.{Kinds}
-use Rattle.answer.specs.Answer.{decimalBy, decimal, letter, shown, kindLetters, kindField, answerLine, refusedAnswer}
+use Rattle.answer.specs.Answer.{decimalBy, decimal, letter, letterIf, kindLetters, kindField, answerLine, refusedAnswer}
 use Rattle.answer.specs.Answers.{frontOf, beforeForm, afterForm}
 
 -- ---- a number by its digits, each of which is the last digit of a quotient
@@ -59,23 +61,19 @@ front-length id number place = simp length-append (omega (arith, decimal-length 
 
 -- ---- the kinds
 
--- nothing put leaves all as it was
-skipped : {before : List ℕ} {n : ℕ} → n ≤ length before → Puts [] before before n n
-skipped {before} {n} h = record { place = omega arith; room = h; buffer = sym (take-append-drop n before) ∙ ap (λ (l : List ℕ). l ++ drop n before) (sym (append-nil (take n before))) }
-
 module _ {before : List ℕ} {n : ℕ} (found : Bool) (letter : ℕ) where
   pub found-put : {after : List ℕ} {r : ℕ} → found ≡ true → Puts (letter ∷ []) before after n r → Puts (pick found (letter ∷ []) []) before after n r
   found-put e p = rw e p
 
   pub found-none : found ≡ false → n < length before → Puts (pick found (letter ∷ []) []) before before n n
-  found-none e h = rw e (skipped (omega arith))
+  found-none e h = rw e (stays (omega arith))
 
 found-length : (found : Bool) (letter : ℕ) → length (pick found (letter ∷ []) []) ≤ 1
 found-length true letter = omega arith
 found-length false letter = omega arith
 
 -- a letter at most for each kind
-pub each-length : (ks : Kinds) → (length (shown (ks .hiragana) Hiragana) ≤ 1) × ((length (shown (ks .katakana) Katakana) ≤ 1) × ((length (shown (ks .kanji) Kanji) ≤ 1) × (length (shown (ks .sign) Sign) ≤ 1)))
+pub each-length : (ks : Kinds) → (length (letterIf (ks .hiragana) Hiragana) ≤ 1) × ((length (letterIf (ks .katakana) Katakana) ≤ 1) × ((length (letterIf (ks .kanji) Kanji) ≤ 1) × (length (letterIf (ks .sign) Sign) ≤ 1)))
 each-length ks =
     (found-length (ks .hiragana) (kindLetter Hiragana), (found-length (ks .katakana) (kindLetter Katakana), (found-length (ks .kanji) (kindLetter Kanji), found-length (ks .sign) (kindLetter Sign))))
 
@@ -84,7 +82,7 @@ unfolding kindLetters
 letters-length ks = simp length-append (omega (arith, each-length ks))
 
 -- no letter of a kind, and not the hyphen, is a control character
-letters-from : (found : Bool) (k : Kind) → allOf (leb 0x2D) (shown found k) ≡ true
+letters-from : (found : Bool) (k : Kind) → allOf (leb 0x2D) (letterIf found k) ≡ true
 unfolding allOf kindLetter
 letters-from false k = refl
 letters-from true Hiragana = refl
@@ -101,26 +99,17 @@ pub all-field : (ks : Kinds) → allOf (leb 0x2D) (kindField ks) ≡ true
 unfolding kindField allOf
 all-field ks = by-test (λ b. allOf (leb 0x2D) (pick b (0x2D ∷ []) (kindLetters ks)) ≡ true) (isEmpty (kindLetters ks)) (λ e. refl) (λ e. all-letters ks)
 
-is-empty : (xs : List ℕ) → length xs ≡ 0 → xs ≡ []
-is-empty [] e = refl
-is-empty (x ∷ xs) e = absurd (omega arith)
-
-not-empty : (xs : List ℕ) → (length xs ≡ 0 → ⊥) → isEmpty xs ≡ false
-unfolding isEmpty
-not-empty [] h = absurd (h refl)
-not-empty (x ∷ xs) h = refl
-
 -- letters were put exactly where the place has moved
 module _ (ks : Kinds) {before after : List ℕ} {n r : ℕ} (p : Puts (kindLetters ks) before after n r) where
-  pub kinds-some : (r ≡ n → ⊥) → Puts (kindField ks) before after n r
+  pub letters-put : (r ≡ n → ⊥) → Puts (kindField ks) before after n r
   unfolding kindField
-  kinds-some h = rw (not-empty (kindLetters ks) (λ z. h (omega (arith, p .place)))) p
+  letters-put h = rw (empty-is (kindLetters ks), ne-eqb (length (kindLetters ks)) 0 (λ z. h (omega (arith, p .place)))) p
 
-  pub kinds-none : r ≡ n → {after′ : List ℕ} {m : ℕ} → Puts (0x2D ∷ []) after after′ n m → Puts (kindField ks) before after′ n m
+  pub hyphen-put : r ≡ n → {after′ : List ℕ} {m : ℕ} → Puts (0x2D ∷ []) after after′ n m → Puts (kindField ks) before after′ n m
   unfolding kindField isEmpty
-  kinds-none e q =
-      let none = is-empty (kindLetters ks) (omega (arith, p .place)) in
-      let kept : after ≡ before = p .buffer ∙ rw (none, e) (sym (skipped {before = before} {n = n} (omega (arith, p .room)) .buffer)) in
+  hyphen-put e q =
+      let none = no-entries (kindLetters ks) (omega (arith, p .place)) in
+      let kept : after ≡ before = p .buffer ∙ rw (none, e) (sym (stays {before = before} {n = n} (omega (arith, p .room)) .buffer)) in
       rw none (rw kept at q)
 
 pub field-length : (ks : Kinds) → length (kindField ks) ≤ 4

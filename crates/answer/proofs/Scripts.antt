@@ -1,34 +1,38 @@
--- What the sixth field tells (document 02, K6): of a line whose second field is 0 it holds the letter of a kind exactly where a character of
--- that kind is found in the leftmost label of the normal form, since each letter is put for its own kind; of any other line it is a hyphen.
+-- What the sixth field tells (document 02, K6): of a line whose second field is 0 it has the kinds of the leftmost label of the normal form,
+-- and so the letter of a kind exactly where a character of that kind is found, since each letter is put for its own kind. That it is a hyphen
+-- of any other line stands with the fields (`sixth-refused` in Fields).
 -- Assumes nothing.
-use mathlib.Core.Path.{_≡_, refl, sym, ap, _∙_}
+use mathlib.Core.Path.{_≡_, refl, _∙_}
 use mathlib.Core.Bool.{Bool, true, false, _&&_, _||_, and-true, and-false, or-false}
-use mathlib.Core.List.{List, [], _∷_, _++_}
+use mathlib.Core.List.{List, [], _∷_, map}
 use Prim.Native.Nat.{ℕ}
 use lib.Dec.{eqb}
 use Rattle.lists.specs.Tests.{pick, anyOf, elem}
 use Rattle.lists.proofs.Laws.{any-append, clash}
 use Rattle.characters.specs.Characters.{kindLetter, anyKind}
+use Rattle.characters.specs.KanjiBits.{kanjiBits}
 use Rattle.characters.specs.declared.Kind.{Kind}
 use Rattle.characters.specs.declared.Kind.the-variants.{Hiragana, Katakana, Kanji, Sign, None}
 use Rattle.rules.specs.Permits.{Permits, isEmpty}
 use Rattle.rules.specs.Kinds.{found, kindsIn}
 use Rattle.rules.specs.Editions.{today}
 use Rattle.rules.specs.declared.Kinds.{Kinds}
-use Rattle.answer.specs.Answer.{shown, kindLetters, kindField, answerTo}
-use Rattle.answer.proofs.Fields.{fieldOf, leftmostOf, zero-said, kinds-field, refused-field}
+use Rattle.rules.proofs.Today.{lending}
+use Rattle.answer.specs.Answer.{letterIf, kindLetters, kindField, answerTo}
+use Rattle.answer.specs.Examples.{toldOf, triedLabels, triedFields, tried-kinds}
+use Rattle.answer.proofs.Fields.{fieldOf, leftmostOf, zero-said, kinds-field}
 
 -- ---- a letter in the field
 
-in-shown : (x : ℕ) (b : Bool) (k : Kind) → elem x (shown b k) ≡ b && eqb x (kindLetter k)
+in-letter : (x : ℕ) (b : Bool) (k : Kind) → elem x (letterIf b k) ≡ b && eqb x (kindLetter k)
 unfolding elem anyOf
-in-shown x true k = or-false (eqb x (kindLetter k))
-in-shown x false k = refl
+in-letter x true k = or-false (eqb x (kindLetter k))
+in-letter x false k = refl
 
 in-letters : (x : ℕ) (ks : Kinds) → elem x (kindLetters ks)
     ≡ ((ks .hiragana && eqb x (kindLetter Hiragana)) || (ks .katakana && eqb x (kindLetter Katakana)) || (ks .kanji && eqb x (kindLetter Kanji)) || (ks .sign && eqb x (kindLetter Sign)))
 unfolding kindLetters elem
-in-letters x ks = simp (any-append, in-shown x)
+in-letters x ks = simp (any-append, in-letter x)
 
 -- the hyphen aside, the letters are all that the field holds
 in-field : (x : ℕ) → eqb x 0x2D ≡ false → (ks : Kinds) → elem x (kindField ks) ≡ elem x (kindLetters ks)
@@ -50,9 +54,15 @@ tells P l None e = clash e refl
 -- ---- the answer to a line
 
 module _ (P : Permits) (line : List ℕ) where
+  pub sixth-is : fieldOf 1 (answerTo P line) ≡ 0x30 ∷ [] → fieldOf 5 (answerTo P line) ≡ kindField (kindsIn P (leftmostOf line))
+  sixth-is e = let z = zero-said P line e in kinds-field P line (z .0) (z .1)
+
+  -- so it holds a kind's letter exactly where the kind is found
   pub sixth-tells : fieldOf 1 (answerTo P line) ≡ 0x30 ∷ [] → (k : Kind) → anyKind k ≡ true
       → elem (kindLetter k) (fieldOf 5 (answerTo P line)) ≡ found P (leftmostOf line) k
-  sixth-tells e k a = let z = zero-said P line e in rw (kinds-field P line (z .0) (z .1)) (tells P (leftmostOf line) k a)
+  sixth-tells e k a = rw (sixth-is e) (tells P (leftmostOf line) k a)
 
-  pub sixth-refused : (fieldOf 1 (answerTo P line) ≡ 0x30 ∷ [] → ⊥) → fieldOf 5 (answerTo P line) ≡ 0x2D ∷ []
-  sixth-refused = refused-field P line
+-- ---- the tried names, at the edition in force
+
+pub tried-kinds-today : map (toldOf today) triedLabels ≡ triedFields
+tried-kinds-today = lending (λ (P : Permits). map (toldOf P) triedLabels ≡ triedFields) {table = kanjiBits} refl tried-kinds

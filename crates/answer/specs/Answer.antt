@@ -55,13 +55,14 @@ letter Prefecture = 0x50
 letter None = 0x2D
 
 -- a kind's letter where the kind is found
-abbrev pub shown : Bool → Kind → List ℕ
-shown found k = pick found (kindLetter k ∷ []) []
+abbrev pub letterIf : Bool → Kind → List ℕ
+letterIf found k = pick found (kindLetter k ∷ []) []
 
 -- H, K, J and S for the kinds that are found, in that order
 unfoldable pub kindLetters : Kinds → List ℕ
 kindLetters ks =
-    shown (ks .hiragana) Hiragana ++ shown (ks .katakana) Katakana ++ shown (ks .kanji) Kanji ++ shown (ks .sign) Sign
+    letterIf (ks .hiragana) Hiragana ++ letterIf (ks .katakana) Katakana
+    ++ letterIf (ks .kanji) Kanji ++ letterIf (ks .sign) Sign
 
 -- or -
 unfoldable pub kindField : Kinds → List ℕ

@@ -11,7 +11,7 @@ use lib.Dec.{eqb, ltb}
 use lib.ListN.{length}
 use borrow.Author.Tests.{eqb-true, eqb-false}
 use Rattle.lists.specs.Tests.{pick, within, anyOf, elem, above, rising}
-use Rattle.lists.proofs.Laws.{any-append, inside, outside, lt-or-le}
+use Rattle.lists.proofs.Laws.{or-swap, any-append, inside, outside, lt-or-le}
 use Rattle.characters.specs.Kanji.{kanji}
 use Rattle.characters.specs.Characters.{kinds, signs, stretch, japaneseBy, japanese}
 
@@ -44,11 +44,6 @@ none-twice = refl
 -- ---- the list holds exactly the Japanese characters
 
 module _ (c : ℕ) where
-  swap : (a b : Bool) (z : Bool) → a || (b || z) ≡ b || (a || z)
-  swap true true z = refl
-  swap true false z = refl
-  swap false b z = refl
-
   in-insert : (x : ℕ) (ys : List ℕ) → elem c (insert x ys) ≡ eqb c x || elem c ys
   unfolding insert elem anyOf
   in-insert x [] = refl
@@ -57,7 +52,7 @@ module _ (c : ℕ) where
       go : (b : Bool) → anyOf (eqb c) (insert x ys) ≡ eqb c x || anyOf (eqb c) ys
           → anyOf (eqb c) (pick b (x ∷ y ∷ ys) (y ∷ insert x ys)) ≡ eqb c x || (eqb c y || anyOf (eqb c) ys)
       go true e = refl
-      go false e = ap (λ (z : Bool). eqb c y || z) e ∙ swap (eqb c y) (eqb c x) (anyOf (eqb c) ys)
+      go false e = ap (λ (z : Bool). eqb c y || z) e ∙ or-swap (eqb c y) (eqb c x) (anyOf (eqb c) ys)
 
   in-all : (xs ys : List ℕ) → elem c (insertAll xs ys) ≡ elem c xs || elem c ys
   unfolding insertAll elem anyOf

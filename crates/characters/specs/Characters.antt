@@ -52,7 +52,7 @@ kindAmong isKanji (k ∷ ks) c = pick (stretch isKanji k c) k (kindAmong isKanji
 unfoldable pub kindBy : (ℕ → Bool) → ℕ → Kind
 kindBy isKanji c = kindAmong isKanji kinds c
 
--- the kind of a code point; no stretch holds what another holds (proofs/OneKind), so the order of the kinds is of no matter
+-- the kind of a code point; no stretch holds what another holds (proofs/OneKind), so the order is of no matter
 unfoldable pub kind : ℕ → Kind
 kind c = kindBy (λ x. elem x kanji) c
 

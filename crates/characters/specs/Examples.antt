@@ -1,6 +1,6 @@
 -- Closed examples of document 01, 'Normal form', and of document 02, K2 and K6, by computation.
 use mathlib.Core.Path.{_≡_, refl}
-use mathlib.Core.List.{[], _∷_, map}
+use mathlib.Core.List.{[], _∷_, _++_, map, replicate}
 use Prim.Native.Nat.{ℕ}
 use Rattle.lists.specs.Tests.{within, anyOf, elem}
 use Rattle.characters.specs.Kanji.{kanji}
@@ -44,8 +44,8 @@ apart = refl
 
 -- ---- the kinds: document 02, K6
 
--- by their letters: the ends of each stretch; 4EDD, which lies among the kanji; the prolonged sound mark, the middle dot
--- and the repeat signs beside the kana; what is beside them and is none
+-- by their letters: the ends of each stretch; 4EDD, which lies among the kanji; the prolonged sound mark, the middle
+-- dot and two repeat signs, which lie beside the kana; 3007
 pub kinds-of :
     map (λ (c : ℕ). kindLetter (kind c))
     (0x3041 ∷ 0x3093 ∷ 0x30A1 ∷ 0x30F6 ∷ 0x4E00 ∷ 0x9FA0 ∷ 0x4EDD ∷ 0x30FC ∷ 0x30FB ∷ 0x309D ∷ 0x30FD ∷ 0x3007 ∷ [])
@@ -53,7 +53,15 @@ pub kinds-of :
 unfolding kindLetter kinds signs stretch kindAmong kindBy kind kanji within anyOf elem
 kinds-of = refl
 
+-- what is beside a stretch, 3003, a letter and a half-width kana have none
 pub no-kinds-of : map (λ (c : ℕ). kindLetter (kind c)) (0x3040 ∷ 0x3094 ∷ 0x30A0 ∷ 0x30F7 ∷ 0x3003 ∷ 0x61 ∷ 0xFF71 ∷ [])
     ≡ 0x2D ∷ 0x2D ∷ 0x2D ∷ 0x2D ∷ 0x2D ∷ 0x2D ∷ 0x2D ∷ []
 unfolding kindLetter kinds signs stretch kindAmong kindBy kind kanji within anyOf elem
 no-kinds-of = refl
+
+-- what the half-width kana FF65 to FF9F become: the middle dot is a sign, ten are katakana, the prolonged sound mark is
+-- a sign, 45 are katakana, and the two marks have no kind
+pub half-kinds-of : map (λ (c : ℕ). kindLetter (kind c)) halfKana
+    ≡ 0x53 ∷ (replicate 10 0x4B ++ 0x53 ∷ (replicate 45 0x4B ++ 0x2D ∷ 0x2D ∷ []))
+unfolding kindLetter kinds signs stretch kindAmong kindBy kind kanji halfKana within anyOf elem
+half-kinds-of = refl

@@ -1,5 +1,5 @@
--- What replaces a code point: document 01, 'Normal form'; 2212 is of document 02, K2. The kind of each code point is
--- decided by ranges.
+-- What replaces a code point: document 01, 'Normal form'; 2212 is of document 02, K2. Its replacement class is decided
+-- by ranges.
 use mathlib.Core.Bool.{Bool, true, false}
 use mathlib.Core.List.{List, [], _∷_}
 use Prim.Native.Nat.{ℕ, _+_, _-_}

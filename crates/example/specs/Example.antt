@@ -49,14 +49,14 @@ output =
 
 pub printed : batch (answerTo today) input ≡ output
 unfolding input output first within allOf anyOf indexOf elem same Rattle.characters.specs.Characters.alnum hyphen
-    asciiSet kindLetter kinds signs stretch kindAmong kindBy kind anyKind voiced repeats halfVoiced eitherKana composed kanji ranges
-    rangeIn Rattle.characters.specs.Replace.classOf halfKana isHalf replaceIn replace replacedFrom compose
-    normalPlaced normalForm places coderNumber digit adaptLoop damped adapt threshold varint add emit point points
-    nearer least passes below delimiter initial extended encode ace Rattle.punycode.specs.Punycode.alnum ldh wide
-    allowed encodable middle today period intoFirst labels join jaChar labelChar isEmpty prefectures unfit
-    middleDot ordinary isJapanese beginsWithHyphen endsWithHyphen hyphenEdge short long hyphenPair pretends bareDot
-    labelRows jp nameRows frontRows textRows Rattle.rules.specs.Rules.classOf verdict asciiLabel asciiForm uncoded
-    asciiRows tab idOf nameOf oneTab idByte goodId badLine decimalBy decimal letter sameKind found kindsIn kindsSaid
-    kindLetters kindField answerLine goodAnswer answerTo lf
-    linesFrom lines answers batch scalar proper decodeFrom
+    asciiSet kindLetter kinds signs stretch kindAmong kindBy kind anyKind voiced repeats halfVoiced eitherKana
+    composed kanji ranges rangeIn Rattle.characters.specs.Replace.classOf halfKana isHalf replaceIn replace
+    replacedFrom compose normalPlaced normalForm places coderNumber digit adaptLoop damped adapt threshold varint add
+    emit point points nearer least passes below delimiter initial extended encode ace
+    Rattle.punycode.specs.Punycode.alnum ldh wide allowed encodable middle today period intoFirst labels join jaChar
+    labelChar isEmpty prefectures unfit middleDot ordinary isJapanese beginsWithHyphen endsWithHyphen hyphenEdge short
+    long hyphenPair pretends bareDot labelRows jp nameRows frontRows textRows Rattle.rules.specs.Rules.classOf verdict
+    asciiLabel asciiForm uncoded asciiRows tab idOf nameOf oneTab idByte goodId badLine decimalBy decimal letter
+    sameKind found kindsIn kindsSaid kindLetters kindField answerLine goodAnswer answerTo lf linesFrom lines answers
+    batch scalar proper decodeFrom
 printed = refl

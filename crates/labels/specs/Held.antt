@@ -1,5 +1,5 @@
--- What a label holds: whether a label may hold all of its characters, and, where it may, which kinds of Japanese ones are
--- found.
+-- What a label holds: whether a label may hold all of its characters, and, where it may, which kinds of Japanese ones
+-- are found (document 02, K6). That none are told where it may not is our choice.
 use mathlib.Core.Bool.{false}
 use mathlib.Core.List.{List}
 use Prim.Native.Nat.{ℕ}

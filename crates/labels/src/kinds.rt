@@ -1,4 +1,4 @@
-// What a label holds: only what a label may, and which kinds of Japanese characters. Each character is looked at once.
+// What a label holds: whether only what a label may, and which kinds of Japanese characters. Each character is looked at once.
 use crate::Held;
 use characters::Kind;
 use characters::is_ascii;

@@ -1,13 +1,13 @@
 -- What a test that comes out true, or false, says: on Bools, on ranges, on lists.
 -- Assumes nothing.
 use mathlib.Core.Path.{_≡_, refl, sym, ap, _∙_}
-use mathlib.Core.Bool.{Bool, true, false, not, _&&_, _||_, true≢false, false≢true}
+use mathlib.Core.Bool.{Bool, true, false, not, _&&_, _||_, or-assoc, true≢false, false≢true}
 use mathlib.Core.List.{List, [], _∷_, _++_}
 use mathlib.Core.Logic.{_⊎_, inl, inr, ⊎-elim}
 use Prim.Native.Nat.{ℕ, zero, suc, _≤_, _<_}
 use native.Mathlib.Omega.{arith}
 use lib.Dec.{eqb, leb}
-use lib.ListN.{length}
+use lib.ListN.{length, getD}
 use borrow.Author.Tests.{le-leb, leb-true, eqb-true, eq-eqb, ne-eqb, not-true}
 use Rattle.lists.specs.Tests.{pick, within, allOf, anyOf, indexOf, elem, same}
 
@@ -27,6 +27,11 @@ or-left a b e = rw e
 pub or-right : (a b : Bool) → b ≡ true → a || b ≡ true
 or-right true b e = refl
 or-right false b e = e
+
+pub or-swap : (a b c : Bool) → a || (b || c) ≡ b || (a || c)
+or-swap true true c = refl
+or-swap true false c = refl
+or-swap false b c = refl
 
 -- one of two tests
 pub either : {A : Type 0} (a b : Bool) → a || b ≡ true → (a ≡ true → A) → (b ≡ true → A) → A
@@ -90,6 +95,22 @@ module _ {A : Type 0} (f : A → Bool) where
       go : (b : Bool) → anyOf f (xs ++ ys) ≡ anyOf f xs || anyOf f ys → b || anyOf f (xs ++ ys) ≡ b || anyOf f xs || anyOf f ys
       go true e = refl
       go false e = e
+
+-- one of two tests holds of some entry
+pub any-or : {A : Type 0} (f g : A → Bool) (l : List A) → anyOf (λ c. f c || g c) l ≡ anyOf f l || anyOf g l
+unfolding anyOf
+any-or f g [] = refl
+any-or f g (x ∷ xs) =
+    ap (λ (t : Bool). (f x || g x) || t) (any-or f g xs)
+    ∙ or-assoc (f x) (g x) (anyOf f xs || anyOf g xs)
+    ∙ ap (λ (t : Bool). f x || t) (or-swap (g x) (anyOf f xs) (anyOf g xs))
+    ∙ sym (or-assoc (f x) (anyOf f xs) (g x || anyOf g xs))
+
+-- what holds of every entry, and of d, holds of the first
+pub first-of : {A : Type 0} (f : A → Bool) (d : A) → f d ≡ true → (l : List A) → allOf f l ≡ true → f (getD l 0 d) ≡ true
+unfolding allOf
+first-of f d e [] a = e
+first-of f d e (x ∷ xs) a = both (f x) (allOf f xs) a .0
 
 -- where f holds of all, so does what f implies
 pub all-weaker : {A : Type 0} (f g : A → Bool) (imp : (c : A) → f c ≡ true → g c ≡ true) (l : List A) → allOf f l ≡ true → allOf g l ≡ true
@@ -187,3 +208,7 @@ same-is (x ∷ xs) (y ∷ ys) e = let p = both (eqb x y) (same xs ys) e in rw (e
 -- what holds of every list of a table holds of each that is in it
 pub in-lists : (f : List ℕ → Bool) (l : List ℕ) (table : List (List ℕ)) → allOf f table ≡ true → anyOf (same l) table ≡ true → f l ≡ true
 in-lists f l table w e = in-listed l (same l) (same-is l) f table w e
+
+pub no-entries : {A : Type 0} (l : List A) → length l ≡ 0 → l ≡ []
+no-entries [] e = refl
+no-entries (x ∷ xs) e = absurd (omega arith)

@@ -1,11 +1,11 @@
 -- Pieces that are put one after the other stand together: the next is put where the last one ended, and touches nothing before it.
 -- Assumes nothing.
 use mathlib.Core.Path.{_≡_, refl, sym, ap, _∙_}
-use mathlib.Core.List.{List, [], _∷_, _++_, append-assoc}
+use mathlib.Core.List.{List, [], _∷_, _++_, append-nil, append-assoc}
 use Prim.Native.Nat.{ℕ, suc, _+_, _≤_, _<_}
 use native.Mathlib.Numerals.{add-one}
 use native.Mathlib.Omega.{arith}
-use lib.ListN.{length, take, drop, set, getD, length-append, length-drop}
+use lib.ListN.{length, take, drop, set, getD, length-append, length-drop, take-append-drop}
 use lib.Seq.{paste, paste-suc, take-all, take-at, drop-at, drop-drop, set-split, append-snoc, length-take-le}
 use Rattle.lists.specs.Front.{written, Puts}
 
@@ -38,8 +38,12 @@ module _ {p b₀ b₁ : List ℕ} {n m : ℕ} (x : Puts p b₀ b₁ n m) where
   puts-inside = omega (arith, x .room, puts-length)
 
 -- nothing put leaves all as it was
+pub stays : {before : List ℕ} {n : ℕ} → n ≤ length before → Puts [] before before n n
+stays {before} {n} h =
+    record { place = omega arith; room = h; buffer = sym (take-append-drop n before) ∙ ap (λ (l : List ℕ). l ++ drop n before) (sym (append-nil (take n before))) }
+
 pub nothing : {before : List ℕ} → Puts [] before before 0 0
-nothing = record { place = refl; room = omega arith; buffer = refl }
+nothing = stays (omega arith)
 
 -- what is put decides the buffer, and the place past it
 pub puts-once : {xs ys before a b : List ℕ} {n m k : ℕ} → xs ≡ ys → Puts xs before a n m → Puts ys before b n k → (a ≡ b) × (m ≡ k)

@@ -27,8 +27,8 @@ use Rattle.rules.specs.declared.Verdict.{Verdict}
 use Rattle.rules.proofs.ByName.{clear-text, text-cleared}
 use Rattle.ascii.specs.Ascii.{asciiForm, uncoded}
 use Rattle.fronts.proofs.Shown.{at-start, shown-full}
-use Rattle.names.specs.Calls.{Answers, checked, checkRows, Checks, kindsSaid, asciiFormed, refusedForm, asciiRows, AsciiForms}
-use Rattle.names.specs.Steps.{Judges}
+use Rattle.names.specs.Calls.{Answers, checked, checkRows, Checks, kindsSaid, asciiFormed, asciiRows, AsciiForms}
+use Rattle.names.specs.Steps.{refusedForm, Judges}
 use Rattle.names.specs.declared.AsciiForm.{AsciiForm}
 use Rattle.names.specs.declared.Checked.{Checked}
 use Rattle.names.specs.declared.judges.Ruled.{Ruled}

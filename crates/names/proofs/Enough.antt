@@ -13,7 +13,7 @@ use borrow.Author.Tests.{not-true, not-false}
 use Rattle.lists.specs.Tests.{allOf, anyOf, same}
 use Rattle.lists.specs.Front.{written}
 use Rattle.lists.specs.Rows.{Clear}
-use Rattle.lists.proofs.Laws.{both, or-right, same-is}
+use Rattle.lists.proofs.Laws.{both, or-right, first-of, same-is}
 use Rattle.normal.specs.Normal.{normalForm}
 use Rattle.rules.specs.Labels.{labels}
 use Rattle.rules.specs.Permits.{Permits, ShortMiddles, labelChar, middle}
@@ -27,8 +27,8 @@ use Rattle.rules.proofs.Derived.{left-size, middle-length, two-or-three}
 use Rattle.ascii.specs.Labels.{high}
 use Rattle.ascii.specs.Ascii.{asciiForm, uncoded, writable}
 use Rattle.ascii.proofs.OfNames.{label-writable}
-use Rattle.names.specs.Calls.{refusedForm, AsciiForms}
-use Rattle.names.specs.Steps.{Writable, PutsWhere, Judges}
+use Rattle.names.specs.Calls.{AsciiForms}
+use Rattle.names.specs.Steps.{refusedForm, Writable, PutsWhere, Judges}
 use Rattle.names.specs.declared.AsciiForm.{AsciiForm}
 use Rattle.names.specs.declared.whole.Put.{Put}
 use Rattle.names.specs.declared.judges.Ruled.{Ruled}
@@ -77,11 +77,6 @@ module _ (P : Permits) (short : ShortMiddles P) (text : List ℕ) where
   ready e z = let p = accepted-as P text e z in rw (p .form) (accepted-writable (p .clear))
 
 -- ---- what the leftmost label of an accepted name holds
-
-first-of : {A : Type 0} (f : A → Bool) (d : A) → f d ≡ true → (l : List A) → allOf f l ≡ true → f (getD l 0 d) ≡ true
-unfolding allOf
-first-of f d e [] a = e
-first-of f d e (x ∷ xs) a = both (f x) (allOf f xs) a .0
 
 leftmost-kinds : (P : Permits) (text : List ℕ) → Clear (textRows P text)
     → heldIn P (getD (labels (normalForm text)) 0 []) .kinds ≡ kindsIn P (getD (labels (normalForm text)) 0 [])

@@ -25,7 +25,7 @@ use Rattle.normal.proofs.Unchanged.{unchanged, unchanged-by, unchanged-form}
 use Rattle.rules.specs.Labels.{period, intoFirst, labels, join}
 use Rattle.rules.specs.Permits.{Permits, InStretch, ShortMiddles, jaChar, labelChar, isEmpty}
 use Rattle.rules.specs.Rules.{unfit, isJapanese, ofName, labelRows, jp, textRows, classOf, verdict, byLabels, rules, accepted, refused}
-use Rattle.rules.specs.Kinds.{kindsIn, anyFound}
+use Rattle.rules.specs.Kinds.{anyFound}
 use Rattle.rules.specs.Editions.{todayWith}
 use Rattle.rules.specs.declared.Class.the-variants.{General}
 use Rattle.rules.specs.declared.Kinds.{Kinds}
@@ -42,8 +42,8 @@ use Rattle.labels.proofs.OfLabel.{rows-are}
 use Rattle.labels.proofs.Holding.{any-found}
 use Rattle.ascii.specs.Ascii.{asciiLabel, asciiForm, uncoded, writable}
 use Rattle.ascii.proofs.OfNames.{label-size}
-use Rattle.names.specs.Calls.{refusedForm, AsciiForms}
-use Rattle.names.specs.Steps.{PutsOrKeeps, UsualLabel, dotJp, endsInJp}
+use Rattle.names.specs.Calls.{AsciiForms}
+use Rattle.names.specs.Steps.{refusedForm, PutsOrKeeps, UsualLabel, dotJp, endsInJp}
 use Rattle.names.specs.declared.AsciiForm.{AsciiForm}
 use Rattle.names.specs.declared.whole.Put.{Put}
 use Rattle.names.proofs.Answering.{ascii-refused, ascii-uncoded, ascii-accepted}

@@ -14,7 +14,6 @@ use Rattle.rules.specs.Labels.{labels}
 use Rattle.rules.specs.Permits.{Permits}
 use Rattle.rules.specs.Kinds.{kindsIn, noKinds}
 use Rattle.rules.specs.Rules.{textRows, verdict, rules}
-use Rattle.rules.specs.declared.Class.the-variants.{None}
 use Rattle.rules.specs.declared.Kinds.{Kinds}
 use Rattle.rules.specs.declared.Verdict.{Verdict}
 use Rattle.fronts.specs.Fronts.{shown, padded}
@@ -77,11 +76,7 @@ asciiFormed P ls v n =
     let kinds = kindsSaid P ls (v .number) in
     record { number = v .number; place = v .place; class = v .class; kinds = kinds; length = n }
 
--- a refusal
-abbrev pub refusedForm : ℕ → ℕ → AsciiForm
-refusedForm n p = record { number = n; place = p; class = None; kinds = noKinds; length = 0 }
-
--- the same of this one
+-- number, place and class of an answer of this call
 abbrev pub asciiSaid : AsciiForm → Verdict
 asciiSaid r = record { number = r .number; place = r .place; class = r .class }
 

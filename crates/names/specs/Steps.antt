@@ -9,11 +9,13 @@ use Rattle.lists.specs.Tests.{within, allOf, same}
 use Rattle.lists.specs.Front.{written, Puts}
 use Rattle.rules.specs.Labels.{labels}
 use Rattle.rules.specs.Permits.{Permits, labelChar}
-use Rattle.rules.specs.Kinds.{kindsIn}
+use Rattle.rules.specs.Kinds.{kindsIn, noKinds}
 use Rattle.rules.specs.Rules.{jp, rules}
+use Rattle.rules.specs.declared.Class.the-variants.{None}
 use Rattle.rules.specs.declared.Kinds.{Kinds}
 use Rattle.fronts.specs.Fronts.{shown}
 use Rattle.ascii.specs.Ascii.{writable}
+use Rattle.names.specs.declared.AsciiForm.{AsciiForm}
 use Rattle.names.specs.declared.whole.Put.{Put}
 use Rattle.names.specs.declared.judges.Ruled.{Ruled}
 
@@ -28,6 +30,10 @@ pub record Judges (P : Permits) (text before after : List ℕ) (r : Ruled) : Typ
   pub buffer : after ≡ written (shown text) before
 
 -- ---- the parts of an ASCII form
+
+-- the answer of a refusal
+abbrev pub refusedForm : ℕ → ℕ → AsciiForm
+refusedForm n p = record { number = n; place = p; class = None; kinds = noKinds; length = 0 }
 
 -- each label of a form is writable, and there is room for 64 octets of each
 pub record Writable (P : Permits) (form : List ℕ) (room : ℕ) : Type 0 where

@@ -1,5 +1,5 @@
 // The calls on a name: judge, check, whether it may yet become one, whole ASCII form. Each takes any text and any lent buffer, says by
-// itself whether the text is fit, and writes nothing where it refuses. Its meaning is defined in `rules` (specs/Rules, Hopeful) and here in
+// itself whether the text is fit, and writes nothing where it refuses. Its meaning is defined in `rules` (specs/Rules, Kinds, Hopeful) and here in
 // specs/Calls. A call `.._with` is lent the table of kanji, so that a program names that table once; the call without names it itself.
 mod checks;
 mod hopes;
@@ -56,7 +56,7 @@ pub struct Checked {
     pub length: usize,
 }
 
-// What the call for the whole ASCII form answers; with 0 the kinds are those of the leftmost label.
+// What the call for the whole ASCII form answers; the kinds are those of the leftmost label with 0, and none otherwise.
 pub struct AsciiForm {
     pub number: u8,
     pub place: usize,

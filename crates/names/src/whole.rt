@@ -1,5 +1,5 @@
-// The whole ASCII form of a name: each Japanese label encoded, ASCII labels as they are, joined by periods. What the coder does
-// is known by its stated answers alone.
+// The whole ASCII form of a name, each Japanese label encoded, ASCII labels as they are, joined by periods; and the kinds of its leftmost
+// label. What the coder does is known by its stated answers alone.
 use crate::ACCEPTED;
 use crate::AsciiForm;
 use crate::NO_ROOM;
@@ -22,8 +22,8 @@ ghost use Rattle.rules.specs.Editions.{today, todayWith};
 ghost use Rattle.ascii.specs.Ascii.{asciiLabel, asciiForm, uncoded, writable};
 ghost use Rattle.rules.specs.Labels.{labels};
 ghost use Rattle.labels.specs.Held.{heldIn};
-ghost use Rattle.names.specs.Calls.{refusedForm, AsciiForms};
-ghost use Rattle.names.specs.Steps.{Writable, PutsWhere, PutsOrKeeps};
+ghost use Rattle.names.specs.Calls.{AsciiForms};
+ghost use Rattle.names.specs.Steps.{refusedForm, Writable, PutsWhere, PutsOrKeeps};
 
 // A refusal: length 0, and nothing is written.
 pub(crate) fn refused_form(number: u8, place: usize) -> AsciiForm

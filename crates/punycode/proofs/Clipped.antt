@@ -11,11 +11,12 @@ use lib.Dec.{eqb}
 use lib.ListN.{length, getD, take, drop, set, length-append, length-take, drop-of-length-le}
 use lib.Seq.{drop-cons, take-suc-set, take-append-le, length-take-le, take-all, take-take, append-snoc}
 use borrow.Author.Tests.{lt-ltb, le-ltb, ne-eqb, eq-eqb}
+use Rattle.lists.proofs.Laws.{no-entries}
 use Rattle.punycode.specs.Inner.{kept, held}
 use Rattle.punycode.specs.Order.{due, run, first, Climbs, step}
 use Rattle.punycode.specs.Punycode.{adaptLoop, adapt, threshold, digit, varint, Enc, emit, below, delimiter, extended, encode, ace}
 use Rattle.punycode.specs.declared.coder.State.{State}
-use Rattle.punycode.proofs.Keys.{none, below-append}
+use Rattle.punycode.proofs.Keys.{below-append}
 use Rattle.punycode.proofs.Reading.{split}
 
 -- ---- the first 64 octets
@@ -195,7 +196,7 @@ module _ (p l : List ℕ) (j : ℕ) (text : List ℕ) (v : take 64 (text ++ belo
 
 pub basics-none : (p l out : List ℕ) (b : ℕ) → b ≡ length (below 128 l) → b ≡ 0 → out ≡ take 64 p → out ≡ take 64 (p ++ below 128 l ++ delimiter b)
 unfolding delimiter
-basics-none p l out b h z q = let e = none (below 128 l) (omega arith) in rw (q, e, eq-eqb b 0 z) (simp append-nil)
+basics-none p l out b h z q = let e = no-entries (below 128 l) (omega arith) in rw (q, e, eq-eqb b 0 z) (simp append-nil)
 
 -- ---- the whole
 

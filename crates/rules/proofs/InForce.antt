@@ -1,20 +1,25 @@
 -- The edition in force keeps the laws, so the theorems hold of it.
 -- Assumes nothing.
-use mathlib.Core.Path.{_≡_, refl}
+use mathlib.Core.Path.{_≡_, refl, _∙_}
 use mathlib.Core.Bool.{true}
 use mathlib.Core.List.{List, map}
 use mathlib.Core.Logic.{_↔_}
 use Prim.Native.Nat.{ℕ, _≤_}
 use lib.ListN.{length}
+use Rattle.lists.specs.Tests.{pick}
 use Rattle.lists.specs.Rows.{Clear}
+use Rattle.lists.proofs.Laws.{by-test}
+use Rattle.characters.specs.Characters.{kind, anyKind, japanese}
+use Rattle.characters.specs.declared.Kind.the-variants.{Kanji, None}
 use Rattle.normal.specs.Normal.{normalForm}
 use Rattle.rules.specs.Rules.{rules, rulesBut, accepted, refused, Sound}
 use Rattle.rules.specs.Grammar.{Derives}
 use Rattle.rules.specs.Pretends.{PRETENDS, Admitted}
 use Rattle.rules.specs.Hosts.{hostTextRows, host}
 use Rattle.rules.specs.Reader.{reader}
+use Rattle.rules.specs.Prefectures.{prefectures}
 use Rattle.rules.specs.Editions.{today}
-use Rattle.rules.specs.Permits.{Permits}
+use Rattle.rules.specs.Permits.{Permits, jaChar}
 use Rattle.rules.specs.Tried.{said, meant, table, tried}
 use Rattle.rules.specs.HopefulTried.{Tells, tried-hopeful}
 use Rattle.rules.specs.Hopeful.{MayBecome, hopeful}
@@ -22,8 +27,9 @@ use Rattle.rules.specs.declared.Class.{Class}
 use Rattle.rules.proofs.ReaderAgrees.{reader-agrees}
 use Rattle.rules.proofs.Exactly.{before-derives, accepted-derives, shrank, refused-17}
 use Rattle.rules.proofs.Hosts.{clear-exactly}
-use Rattle.rules.proofs.Today.{today-laws, today-hope-laws, lending}
+use Rattle.rules.proofs.Today.{today-laws, today-hope-laws, today-japanese, lending}
 use Rattle.rules.proofs.Hopeful.{hopeful-exactly}
+use Rattle.rules.proofs.AnyKind.{same-rules}
 
 -- a text is accepted as a name of class k exactly where its normal form derives as one and does not pretend
 pub accepted-today : (text : List ℕ) (k : Class) → (rules today text ≡ accepted k) ↔ Admitted today k (normalForm text)
@@ -51,6 +57,20 @@ hosts-today = clear-exactly today today-laws
 -- a text is hopeful exactly where it may become a name: some continuation of it, the empty one included, is accepted
 pub hopeful-today : (text : List ℕ) → (hopeful today text ≡ true) ↔ MayBecome today text
 hopeful-today = hopeful-exactly today today-hope-laws
+
+-- ---- to ask for kinds changed no answer (document 02, K6)
+
+-- the edition in force as it was, with a yes or no in place of kinds: yes is said of the characters that document 01 lists
+abbrev pub yesOrNo : Permits
+yesOrNo = record { kind = λ c. pick (japanese c) Kanji None; middles = prefectures; three = true }
+
+yes-is-any : (c : ℕ) → anyKind (kind c) ≡ anyKind (pick (japanese c) Kanji None)
+unfolding today jaChar anyKind
+yes-is-any c = today-japanese c ∙ by-test (λ b. b ≡ anyKind (pick b Kanji None)) (japanese c) (λ e. refl) (λ e. refl)
+
+pub as-before : (text : List ℕ) → rules today text ≡ rules yesOrNo text
+unfolding today
+as-before = same-rules kind _ yes-is-any prefectures true
 
 -- ---- what was computed by the bits of the kanji holds of it
 

@@ -80,7 +80,7 @@ today-hope-laws = record {
 
 -- ---- any kind but none
 
--- the Japanese characters of the edition are those that document 01 lists, so to ask for the kind changes no name's answer
+-- the Japanese characters of the edition are those that document 01 lists
 pub today-japanese : (c : ℕ) → jaChar today c ≡ japanese c
 unfolding today jaChar kind japanese
 today-japanese c = any-but-none _ c

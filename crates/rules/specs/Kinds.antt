@@ -10,7 +10,7 @@ use Rattle.characters.specs.declared.Kind.the-variants.{Hiragana, Katakana, Kan
 use Rattle.rules.specs.Permits.{Permits}
 use Rattle.rules.specs.declared.Kinds.{Kinds}
 
--- the two are one kind: their letters are
+-- the two are one kind: no two kinds have one letter (characters, proofs/OneKind)
 unfoldable pub sameKind : Kind → Kind → Bool
 sameKind j k = eqb (kindLetter j) (kindLetter k)
 

@@ -1,8 +1,9 @@
 // The rules of a name, as definitions and theorems: the registry's grammar, document 01's ordered table of refusals, the
 // second reader of labels, and that the three agree but for the names that pretend to be encoded (17); and which texts may yet
 // become a name. Beside them grammar and rules of a nameserver's host name, but for what needs the coder (specs/Hosts). Every
-// call that judges a name is a thin layer over `rules` (specs/Rules), and `may_become` over `hopeful` (specs/Hopeful). It has
-// no call of its own: only the types that the definitions and the calls share.
+// call that judges a name is a thin layer over `rules` (specs/Rules), and `may_become` over `hopeful` (specs/Hopeful). Which
+// kinds of Japanese characters a label holds stands in specs/Kinds. It has no call of its own: only the types that the
+// definitions and the calls share.
 
 // General-use or prefecture with number 0, and none otherwise.
 pub enum Class {

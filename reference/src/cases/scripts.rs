@@ -290,8 +290,9 @@ fn batches(file: &mut CaseFile) {
     }
 }
 
-/// Labels by themselves: a kind is told whatever the label holds, and where it is
-/// refused. Nothing is replaced here, so half-width kana have no kind.
+/// Labels by themselves: kinds are told where a label may hold all of its
+/// characters, refused or not. Nothing is replaced here, so half-width kana have
+/// no kind.
 fn labels_of_any_kind(file: &mut CaseFile) {
     for label in [
         "", " ", "\u{FF71}", "\u{FF70}", "\u{FF76}\u{FF9E}", "\u{309B}", "\u{304B}\u{309B}",

@@ -4,7 +4,7 @@ use native.Mathlib.Omega.{arith}
 use Rattle.lists.proofs.Pieces.{then}
 use Rattle.characters.specs.Characters.{kindLetter}
 use Rattle.answer.specs.Answer.{kindLetters}
-use Rattle.answer.proofs.Pieces.{each-length, kinds-some, kinds-none}
+use Rattle.answer.proofs.Pieces.{each-length, letters-put, hyphen-put}
 use borrow.Author.Needs.{needs}
 use Rattle.answer.proofs.put_kinds.Statement.{statement}
 use Rattle.answer.proofs.put_kinds.Tie as tie
@@ -33,7 +33,7 @@ same-length c = search needs
 returns : tie.Need-returns
 unfolding kindLetters kindLetter
 returns c =
-    kinds-none (c .before .before .before .before .before .before .before .before .before .before .before .before .before .before .before .before .before .before .before .before .before .before .args .kinds)
+    hyphen-put (c .before .before .before .before .before .before .before .before .before .before .before .before .before .before .before .before .before .before .before .before .before .before .args .kinds)
     (then (then (then (c .before .before .before .before .before .before .before .before .before .before .before .before .before .before .before .before .before .before .before .put-found .ensures) (c .before .before .before .before .before .before .before .before .before .before .before .before .before .before .before .put-found2 .ensures)) (c .before .before .before .before .before .before .before .before .before .before .before .put-found3 .ensures)) (c .before .before .before .before .before .before .before .put-found4 .ensures))
     (c .before .before .before .before .if1 .taken) (c .before .before .put-byte .ensures)
 
@@ -43,7 +43,7 @@ same-length-2 c = search needs
 returns-2 : tie.Need-returns-2
 unfolding kindLetters kindLetter
 returns-2 c =
-    kinds-some (c .before .before .before .before .before .before .before .before .before .before .before .before .before .before .before .before .before .before .args .kinds)
+    letters-put (c .before .before .before .before .before .before .before .before .before .before .before .before .before .before .before .before .before .before .args .kinds)
     (then (then (then (c .before .before .before .before .before .before .before .before .before .before .before .before .before .before .before .put-found .ensures) (c .before .before .before .before .before .before .before .before .before .before .before .put-found2 .ensures)) (c .before .before .before .before .before .before .before .put-found3 .ensures)) (c .before .before .before .put-found4 .ensures))
     (c .if1 .left)
 

@@ -1,7 +1,6 @@
 -- `any_kind` meets its contract: the four are asked in turn.
 -- Assumes nothing.
 use Rattle.rules.specs.Kinds.{anyFound}
-use borrow.Author.Needs.{needs}
 use Rattle.labels.proofs.kinds.any_kind.Statement.{statement}
 use Rattle.labels.proofs.kinds.any_kind.Tie as tie
 

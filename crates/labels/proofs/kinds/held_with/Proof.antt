@@ -7,14 +7,14 @@ use lib.ListN.{length}
 use borrow.Author.Tests.{not-true, not-false}
 use Rattle.characters.specs.Characters.{kindLetter, anyKind}
 use Rattle.rules.specs.Kinds.{sameKind}
-use Rattle.labels.proofs.Holding.{joined, only, Seen, unseen, ascii-on, ascii-not, kind-on, kind-not, all-seen}
+use Rattle.labels.proofs.Holding.{together, only, HeldSoFar, unseen, ascii-on, ascii-not, kind-on, kind-not, all-seen}
 use borrow.Author.Needs.{needs}
 use Rattle.labels.proofs.kinds.held_with.Statement.{statement}
 use Rattle.labels.proofs.kinds.held_with.Tie as tie
 
 abbrev Inv-loop : tie.InvT-loop
 Inv-loop kanji label any-hiragana₀ any-katakana₀ any-kanji₀ any-sign₀ i₀ any-hiragana any-katakana any-kanji any-sign i =
-    Seen kanji label (record { hiragana = any-hiragana; katakana = any-katakana; kanji = any-kanji; sign = any-sign }) i
+    HeldSoFar kanji label (record { hiragana = any-hiragana; katakana = any-katakana; kanji = any-kanji; sign = any-sign }) i
 
 abbrev μ-loop : tie.MeasureT-loop
 μ-loop kanji label any-hiragana₀ any-katakana₀ any-kanji₀ any-sign₀ i₀ any-hiragana any-katakana any-kanji any-sign i = length label - i
@@ -56,7 +56,7 @@ loop-less-2 : tie.Need-loop-less-2 Inv-loop μ-loop
 loop-less-2 c = search needs
 
 loop-again-2 : tie.Need-loop-again-2 Inv-loop μ-loop
-unfolding joined only sameKind kindLetter anyKind
+unfolding together only sameKind kindLetter anyKind
 loop-again-2 c = kind-on _ _ (c .before .before .before .before .before .before .loop .inv) (omega arith) (c .before .before .before .if1 .left) (sym (c .enum-told .given .1) ∙ c .before .before .kind-with .ensures) refl
 
 enum-told-2 : tie.Need-enum-told-2 Inv-loop μ-loop
@@ -66,7 +66,7 @@ loop-less-3 : tie.Need-loop-less-3 Inv-loop μ-loop
 loop-less-3 c = search needs
 
 loop-again-3 : tie.Need-loop-again-3 Inv-loop μ-loop
-unfolding joined only sameKind kindLetter anyKind
+unfolding together only sameKind kindLetter anyKind
 loop-again-3 c = kind-on _ _ (c .before .before .before .before .before .before .loop .inv) (omega arith) (c .before .before .before .if1 .left) (sym (c .enum-told2 .given .1) ∙ c .before .before .kind-with .ensures) refl
 
 enum-told-3 : tie.Need-enum-told-3 Inv-loop μ-loop
@@ -76,7 +76,7 @@ loop-less-4 : tie.Need-loop-less-4 Inv-loop μ-loop
 loop-less-4 c = search needs
 
 loop-again-4 : tie.Need-loop-again-4 Inv-loop μ-loop
-unfolding joined only sameKind kindLetter anyKind
+unfolding together only sameKind kindLetter anyKind
 loop-again-4 c = kind-on _ _ (c .before .before .before .before .before .before .loop .inv) (omega arith) (c .before .before .before .if1 .left) (sym (c .enum-told3 .given .1) ∙ c .before .before .kind-with .ensures) refl
 
 enum-told-4 : tie.Need-enum-told-4 Inv-loop μ-loop
@@ -86,7 +86,7 @@ loop-less-5 : tie.Need-loop-less-5 Inv-loop μ-loop
 loop-less-5 c = search needs
 
 loop-again-5 : tie.Need-loop-again-5 Inv-loop μ-loop
-unfolding joined only sameKind kindLetter anyKind
+unfolding together only sameKind kindLetter anyKind
 loop-again-5 c = kind-on _ _ (c .before .before .before .before .before .before .loop .inv) (omega arith) (c .before .before .before .if1 .left) (sym (c .enum-told4 .given .1) ∙ c .before .before .kind-with .ensures) refl
 
 enum-told-5 : tie.Need-enum-told-5 Inv-loop μ-loop
