@@ -2,12 +2,14 @@
 -- Assumes nothing.
 use mathlib.Core.Path.{_≡_, refl, ap}
 use mathlib.Core.List.{List, [], _∷_, _++_}
+use mathlib.Core.Logic.{⊎-elim}
 use Prim.Native.Nat.{ℕ, zero, suc, _-_, _≤_, _<_}
 use native.Mathlib.Omega.{arith}
 use lib.ListN.{length, take, drop, replicate}
 use borrow.Author.Tests.{lt-ltb, le-ltb}
 use Rattle.lists.specs.Front.{written}
 use Rattle.lists.proofs.Fronts.{front}
+use Rattle.lists.proofs.Laws.{lt-or-le}
 use Rattle.normal.specs.Normal.{normalForm}
 use Rattle.normal.proofs.Laws.{no-longer}
 use Rattle.fronts.specs.Fronts.{shown, padded}
@@ -44,3 +46,7 @@ shown-over text h = rw (lt-ltb 256 (length text) h)
 pub shown-full : (text : List ℕ) → length text ≤ 256 → shown text ≡ normalForm text
 unfolding shown
 shown-full text h = rw (le-ltb 256 (length text) h)
+
+pub shown-fits : (text : List ℕ) → length (shown text) ≤ 256
+shown-fits text =
+    ⊎-elim (λ h. omega (arith, ap length (shown-over text h))) (λ h. omega (arith, ap length (shown-full text h), no-longer text)) (lt-or-le 256 (length text))

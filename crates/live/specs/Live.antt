@@ -10,6 +10,7 @@ use Rattle.lists.specs.Tests.{pick}
 use Rattle.names.specs.Calls.{judged}
 use Rattle.names.specs.declared.Judged.{Judged}
 use Rattle.rules.specs.Permits.{Permits}
+use Rattle.rules.specs.Places.{noPlaces}
 use Rattle.rules.specs.Hopeful.{hopeful}
 use Rattle.rules.specs.declared.Verdict.{Verdict}
 use Rattle.rules.specs.declared.Class.the-variants.{None}
@@ -35,9 +36,10 @@ typed l (c ∷ cs) = typed (stepped l c) cs
 unfoldable pub lookedBy : {A : Type 0} → (List ℕ → A) → A → Live → A
 lookedBy says over l = pick (ltb 256 (l .count)) over (says (take (l .count) (l .text)))
 
--- at the rules of a name: past 256 it shows 3 at place 256 and an empty text
+-- at the rules of a name: past 256 it shows 3 at place 256, no label and an empty text
 unfoldable pub tooLong : Judged
-tooLong = record { number = 3; place = 256; class = None; form = replicate 256 0; length = 0 }
+tooLong =
+    record { number = 3; place = 256; class = None; labels = noPlaces; form = replicate 256 0; length = 0 }
 
 unfoldable pub looked : Permits → Live → Judged
 looked P l = lookedBy (judged P) tooLong l

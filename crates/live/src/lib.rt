@@ -14,7 +14,7 @@ pub struct Live {
     pub count: usize,
 }
 
-// What is shown from the 257th code point on: 3 at place 256, and no text.
+// What is shown from the 257th code point on: 3 at place 256, no label and no text.
 fn too_long() -> names::Judged
     ensures { λ r. ⌜ r ≡ tooLong ⌝ }
 {
@@ -22,6 +22,11 @@ fn too_long() -> names::Judged
         number: 3,
         place: 256,
         class: rules::Class::None,
+        labels: rules::LabelPlaces {
+            count: 0,
+            starts: [0; 3],
+            lengths: [0; 3],
+        },
         form: [0u32; 256],
         length: 0,
     }

@@ -2,15 +2,15 @@
 -- lent buffer, and a refused one leaves the buffer.
 -- Assumes nothing.
 use mathlib.Core.Path.{_≡_, refl, sym, ap, _∙_}
-use mathlib.Core.Bool.{true, false}
+use mathlib.Core.Bool.{Bool, true, false}
 use mathlib.Core.List.{List, [], _∷_, _++_}
 use Prim.Native.Nat.{ℕ, _-_, _≤_, _<_}
 use native.Mathlib.Omega.{arith}
-use lib.Dec.{ltb}
+use lib.Dec.{eqb, ltb}
 use lib.ListN.{length, take, drop, getD}
 use lib.Seq.{take-all}
-use borrow.Author.Tests.{ne-eqb, lt-ltb, le-ltb}
-use Rattle.lists.specs.Tests.{allOf, anyOf}
+use borrow.Author.Tests.{eqb-true, ne-eqb, lt-ltb, le-ltb}
+use Rattle.lists.specs.Tests.{pick, allOf, anyOf}
 use Rattle.lists.specs.Front.{written}
 use Rattle.lists.specs.Rows.{Row, row, first, Clear}
 use Rattle.lists.specs.declared.Answer.{Answer}
@@ -21,14 +21,17 @@ use Rattle.rules.specs.Labels.{labels}
 use Rattle.rules.specs.Permits.{Permits}
 use Rattle.rules.specs.Rules.{labelRows, nameRows, frontRows, textRows, classOf, verdict, rules, accepted, refused}
 use Rattle.rules.specs.Kinds.{kindsIn}
+use Rattle.rules.specs.Places.{labelPlaces, noPlaces, placesSaid}
 use Rattle.rules.specs.declared.Class.{Class}
 use Rattle.rules.specs.declared.Kinds.{Kinds}
+use Rattle.rules.specs.declared.LabelPlaces.{LabelPlaces}
 use Rattle.rules.specs.declared.Verdict.{Verdict}
 use Rattle.rules.proofs.ByName.{clear-text, text-cleared}
+use Rattle.rules.proofs.Derived.{two-or-three}
 use Rattle.ascii.specs.Ascii.{asciiForm, uncoded}
 use Rattle.fronts.proofs.Shown.{at-start, shown-full}
 use Rattle.names.specs.Calls.{Answers, checked, checkRows, Checks, kindsSaid, asciiFormed, asciiRows, AsciiForms}
-use Rattle.names.specs.Steps.{refusedForm, Judges}
+use Rattle.names.specs.Steps.{refusedCheck, refusedForm, TwoOrThree, Judges}
 use Rattle.names.specs.declared.AsciiForm.{AsciiForm}
 use Rattle.names.specs.declared.Checked.{Checked}
 use Rattle.names.specs.declared.judges.Ruled.{Ruled}
@@ -82,28 +85,54 @@ module _ (P : Permits) (text : List ℕ) {lent after : List ℕ} {j : Ruled} (e 
         few = omega (arith, no-longer text);
       }
 
+  -- its labels are two or three
+  pub two-or-three-there : j .number ≡ 0 → TwoOrThree (take (j .length - 0) (drop 0 after))
+  two-or-three-there z =
+      let p = accepted-as z in
+      rw (p .form) (two-or-three (length (labels (normalForm text))) (P .three) (clear-text P text (p .clear) .1 .count))
+
+  -- where they stand is said of the text
+  pub said-of-text : {places : LabelPlaces} → places ≡ placesSaid (labels (take (j .length - 0) (drop 0 after))) (j .number)
+      → places ≡ placesSaid (labels (normalForm text)) (rules P text .number)
+  unfolding placesSaid rules verdict
+  said-of-text q = q ∙ rw (← number-is) (go (eqb (j .number) 0) refl)
+    where
+      go : (b : Bool) → eqb (j .number) 0 ≡ b
+          → pick b (labelPlaces (labels (take (j .length - 0) (drop 0 after)))) noPlaces ≡ pick b (labelPlaces (labels (normalForm text))) noPlaces
+      go true z = rw (accepted-as (eqb-true (j .number) 0 z) .form)
+      go false z = refl
+
 -- ---- the check
 
 module _ (P : Permits) (text before : List ℕ) where
-  pub check-no-room : {r : Checked} → r ≡ checked (refused 1 0) 0 → length before < 256 → Checks P text before before r
+  -- with a refusal no places are said
+  check-no : {n p : ℕ} {r : Checked} → r ≡ refusedCheck n p → first (checkRows P text (length before)) ≡ record { number = n; place = p } → (n ≡ 0 → ⊥)
+      → Checks P text before before r
+  unfolding placesSaid
+  check-no {n} q e h = answers-no (checked _) _ text _ before (q ∙ rw (ne-eqb n 0 h)) e h
+
+  pub check-no-room : {r : Checked} → r ≡ refusedCheck 1 0 → length before < 256 → Checks P text before before r
   unfolding checkRows
-  check-no-room q h = answers-no checked _ text _ before q (hit 1 (ltb (length before) 256) 0 _ (lt-ltb (length before) 256 h)) (λ z. omega arith)
+  check-no-room q h = check-no q (hit 1 (ltb (length before) 256) 0 _ (lt-ltb (length before) 256 h)) (λ z. omega arith)
 
   module _ (h : 256 ≤ length before) {lent form : List ℕ} {j : Ruled} (e : Judges P text lent form j) where
     checking : first (checkRows P text (length before)) ≡ first (textRows P text)
     unfolding checkRows
     checking = passed-over 1 (ltb (length before) 256) 0 _ (le-ltb (length before) 256 h)
 
-    pub check-refused : {r : Checked} → r ≡ checked (refused (j .number) (j .place)) 0 → (j .number ≡ 0 → ⊥) → Checks P text before before r
-    check-refused q n = answers-no checked _ text _ before q (checking ∙ answer-is P text e) n
+    pub check-refused : {r : Checked} → r ≡ refusedCheck (j .number) (j .place) → (j .number ≡ 0 → ⊥) → Checks P text before before r
+    check-refused q n = check-no q (checking ∙ answer-is P text e) n
 
-    pub check-accepted : {after : List ℕ} (z : j .number ≡ 0)
+    pub check-accepted : {after : List ℕ} {places : LabelPlaces} (z : j .number ≡ 0) → places ≡ labelPlaces (labels (take (j .length - 0) (drop 0 form)))
         → after ≡ written (take (length before) (take (j .length - 0) (drop 0 form))) before
-        → Checks P text before after (record { number = 0; place = 0; class = j .class; length = j .length })
-    check-accepted z w =
+        → Checks P text before after (record { number = 0; place = 0; class = j .class; labels = places; length = j .length })
+    unfolding placesSaid
+    check-accepted z q w =
         let p = accepted-as P text e z in
         let all : take (length before) (normalForm text) ≡ normalForm text = take-all (length before) (normalForm text) (omega (arith, p .size, p .few)) in
-        answers-yes checked _ text _ before (checking ∙ clear (textRows P text) (p .clear)) (p .class) (p .size) (w ∙ rw (p .form, all))
+        rw (q, p .form)
+        (answers-yes (checked _) _ text _ before (checking ∙ clear (textRows P text) (p .clear)) (p .class) (p .size)
+        (w ∙ rw (p .form, all)))
 
 -- ---- the whole ASCII form
 

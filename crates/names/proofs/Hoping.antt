@@ -28,6 +28,8 @@ use Rattle.rules.proofs.ByName.{clear-front, front-clear, front-cleared}
 use Rattle.rules.proofs.Cuts.{some-label}
 use Rattle.rules.proofs.Hopeless.{leftmost-length, past-hope}
 use Rattle.fronts.proofs.Fronting.{Told, told-form}
+use Rattle.names.specs.Steps.{EndsAt}
+use Rattle.names.specs.declared.places.Ends.{Ends}
 
 -- ---- one character more, in an array of 64
 
@@ -94,14 +96,19 @@ module _ (P : Permits) where
       unfolding grows
       three-last u ej = rw (← e, not-false b t, ← ep, not-false p u) ej
 
-  four-not : (l m z : List ℕ) (ls : List (List ℕ)) → 1 ≤ length ls → false ≡ grows P (l ∷ m ∷ z ∷ ls)
+  four-not : (ls : List (List ℕ)) → 3 < length ls → false ≡ grows P ls
   unfolding grows
-  four-not l m z [] h = absurd (omega arith)
-  four-not l m z (y ∷ ls) h = refl
+  four-not [] h = absurd (omega arith)
+  four-not (l ∷ []) h = absurd (omega arith)
+  four-not (l ∷ m ∷ []) h = absurd (omega arith)
+  four-not (l ∷ m ∷ z ∷ []) h = absurd (omega arith)
+  four-not (l ∷ m ∷ z ∷ y ∷ ls) h = refl
 
--- a fourth label
-pub four-found : (P : Permits) (t r : List ℕ) {l m z : List ℕ} → labels t ≡ l ∷ m ∷ z ∷ labels r → false ≡ grows P (labels t)
-four-found P t r {l} {m} {z} e = rw e (four-not P l m z (labels r) (some-label r))
+  -- a fourth label
+  pub four-found : (t : List ℕ) {r : Ends} → EndsAt t r → (r .count ≡ 1 → ⊥) → (r .count ≡ 2 → ⊥) → (r .count ≡ 3 → ⊥) → false ≡ grows P (labels t)
+  four-found t E f g h =
+      four-not (labels t)
+      (⊎-elim (λ k. k) (λ k. absurd (omega (arith, E .few k, some-label t))) (lt-or-le 3 (length (labels t))))
 
 -- a beginning of one of the edition's prefecture labels
 pub begins-middle : (table m : List ℕ) {p : Bool} → p ≡ anyOf (begins m) prefectures → p ≡ anyOf (begins m) (todayWith table .middles)

@@ -9,8 +9,10 @@ use Rattle.lists.specs.declared.Answer.{Answer}
 use Rattle.lists.specs.Rows.{accepted}
 use Rattle.rules.specs.Labels.{labels}
 use Rattle.rules.specs.Permits.{Permits}
+use Rattle.rules.specs.Places.{placesSaid}
 use Rattle.rules.specs.Rules.{byLabels, rules}
 use Rattle.rules.specs.declared.Class.the-variants.{None}
+use Rattle.rules.specs.declared.LabelPlaces.{LabelPlaces}
 use Rattle.rules.specs.declared.Verdict.{Verdict}
 use Rattle.rules.proofs.Steps.{text-front, text-on}
 use Rattle.fronts.specs.Fronts.{shown}
@@ -20,12 +22,14 @@ use Rattle.names.specs.Calls.{judged}
 use Rattle.names.specs.Steps.{Judges}
 use Rattle.names.specs.declared.Judged.{Judged}
 use Rattle.names.specs.declared.judges.Ruled.{Ruled}
+use Rattle.names.proofs.Answering.{said-of-text}
 
--- in an array of zeros
-pub as-judged : (P : Permits) (text : List ℕ) {after : List ℕ} {r : Ruled} → Judges P text (replicate 256 0) after r
-    → _≡_ {A = Judged} (record { number = r .number; place = r .place; class = r .class; form = after; length = r .length }) (judged P text)
+-- in an array of zeros, with where the labels of the form stand
+pub as-judged : (P : Permits) (text : List ℕ) {after : List ℕ} {r : Ruled} {places : LabelPlaces} → Judges P text (replicate 256 0) after r
+    → places ≡ placesSaid (labels (take (r .length - 0) (drop 0 after))) (r .number)
+    → _≡_ {A = Judged} (record { number = r .number; place = r .place; class = r .class; labels = places; form = after; length = r .length }) (judged P text)
 unfolding judged
-as-judged P text j = rw (j .result, j .buffer, padded-is (shown text))
+as-judged P text j q = rw (said-of-text P text j q, j .result, j .buffer, padded-is (shown text))
 
 module _ (P : Permits) {text before after : List ℕ} {n : ℕ} where
   judges-as : {a : Answer} → Told P text before after a n → {v : Verdict} → rules P text ≡ v

@@ -1,12 +1,14 @@
+pub mod Cutting
 pub mod OfName
-pub mod Judging
 pub mod Answering
+pub mod Judging
 pub mod Joining
 pub mod Enough
 pub mod UsualName
 pub mod Unique
 pub mod Coded
 pub mod Demands
+pub mod Placing
 pub mod OneForm
 pub mod Minus
 pub mod Hoping

@@ -12,7 +12,7 @@ use Rattle.rules.specs.declared.Verdict.{Verdict}
 use Rattle.rules.proofs.Minus.{withHyphens, minus-length, minus-form, minus-rows, minus-rules}
 use Rattle.fronts.specs.Fronts.{shown}
 use Rattle.ascii.specs.Ascii.{asciiForm}
-use Rattle.names.specs.Calls.{judged, Answers, checkRows, Checks, asciiFormed, asciiRows, AsciiForms}
+use Rattle.names.specs.Calls.{judged, Answers, checked, checkRows, Checks, asciiFormed, asciiRows, AsciiForms}
 use Rattle.names.specs.declared.AsciiForm.{AsciiForm}
 use Rattle.names.specs.declared.Checked.{Checked}
 
@@ -36,7 +36,7 @@ module _ (P : Permits) (t : List ℕ) where
 
   module _ {before after : List ℕ} where
     pub minus-checked : {r : Checked} → Checks P (withHyphens t) before after r → Checks P t before after r
-    minus-checked = answers-alike t refl (check-alike (length before)) (minus-form t)
+    minus-checked = answers-alike t (ap (λ (form : List ℕ). checked (labels form)) (minus-form t)) (check-alike (length before)) (minus-form t)
 
     pub minus-ascii : {r : AsciiForm} → AsciiForms P (withHyphens t) before after r → AsciiForms P t before after r
     minus-ascii =

@@ -13,6 +13,7 @@ use Rattle.normal.specs.Normal.{normalForm}
 use Rattle.rules.specs.Labels.{labels}
 use Rattle.rules.specs.Permits.{Permits}
 use Rattle.rules.specs.Kinds.{kindsIn, noKinds}
+use Rattle.rules.specs.Places.{placesSaid}
 use Rattle.rules.specs.Rules.{textRows, verdict, rules}
 use Rattle.rules.specs.declared.Kinds.{Kinds}
 use Rattle.rules.specs.declared.Verdict.{Verdict}
@@ -22,7 +23,7 @@ use Rattle.names.specs.declared.Judged.{Judged}
 use Rattle.names.specs.declared.Checked.{Checked}
 use Rattle.names.specs.declared.AsciiForm.{AsciiForm}
 
--- ---- the judge: what the rules say of a text, with its normal form
+-- ---- the judge: what the rules say of a text, with where its labels stand (document 02, K7) and its normal form
 
 unfoldable pub judged : Permits → List ℕ → Judged
 judged P text =
@@ -31,6 +32,7 @@ judged P text =
       number = v .number;
       place = v .place;
       class = v .class;
+      labels = placesSaid (labels (normalForm text)) (v .number);
       form = padded (shown text);
       length = length (shown text);
     }
@@ -42,20 +44,25 @@ pub record Answers {R : Type 0} (make : Verdict → ℕ → R) (rows : List Row)
     : Type 0 where
   pub gives : Gives (λ (a : Answer) (n : ℕ). make (verdict a (labels (normalForm text))) n) rows xs before after r
 
--- ---- the check: 1 for a buffer under 256, then the rules; with 0 it writes the normal form
+-- ---- the check: 1 for a buffer under 256, then the rules; with 0 it says where the labels stand and writes the normal
+-- form
 
 unfoldable pub checkRows : Permits → List ℕ → ℕ → List Row
 checkRows P text room = row 1 (ltb room 256) 0 ∷ textRows P text
 
-abbrev pub checked : Verdict → ℕ → Checked
-checked v n = record { number = v .number; place = v .place; class = v .class; length = n }
+abbrev pub checked : List (List ℕ) → Verdict → ℕ → Checked
+checked ls v n =
+    let stands = placesSaid ls (v .number) in
+    record { number = v .number; place = v .place; class = v .class; labels = stands; length = n }
 
 -- number, place and class of such an answer
 abbrev pub checkSaid : Checked → Verdict
 checkSaid r = record { number = r .number; place = r .place; class = r .class }
 
 abbrev pub Checks : Permits → List ℕ → List ℕ → List ℕ → Checked → Type 0
-Checks P text before after r = Answers checked (checkRows P text (length before)) text (normalForm text) before after r
+Checks P text before after r =
+    let form = normalForm text in
+    Answers (checked (labels form)) (checkRows P text (length before)) text form before after r
 
 -- ---- the whole ASCII form: 1 for a buffer under 192, the rules, then 14, which never comes of an accepted name
 -- (proofs/Coded); with 0 it writes the form

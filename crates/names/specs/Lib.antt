@@ -1,4 +1,5 @@
 pub mod Calls
 pub mod Steps
 pub mod Examples
+pub mod Placed
 pub mod Shared

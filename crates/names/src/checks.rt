@@ -3,20 +3,24 @@ use crate::ACCEPTED;
 use crate::Checked;
 use crate::NO_ROOM;
 use crate::judges::judge_into;
+use crate::places::label_places;
+use crate::places::no_places;
 use rules::Class;
 ghost use mathlib.Core.Path.{_≡_};
 ghost use Rattle.rules.specs.Editions.{today, todayWith};
-ghost use Rattle.rules.specs.Rules.{refused};
-ghost use Rattle.names.specs.Calls.{checked, Checks};
+ghost use Rattle.names.specs.Calls.{Checks};
+ghost use Rattle.names.specs.Steps.{refusedCheck};
 
-// A refusal: length 0, and nothing is written.
+// A refusal: no labels, length 0, and nothing is written.
 fn refused_check(number: u8, place: usize) -> Checked
-    ensures { λ r. ⌜ r ≡ checked (refused number place) 0 ⌝ }
+    ensures { λ r. ⌜ r ≡ refusedCheck number place ⌝ }
 {
+    let labels = no_places();
     Checked {
         number,
         place,
         class: Class::None,
+        labels,
         length: 0,
     }
 }
@@ -35,12 +39,14 @@ pub fn check_with(kanji: &[u32], text: &[u32], out: &mut [u32]) -> Checked
     }
     let length = ruled.length;
     let buffer: &[u32] = room;
+    let labels = label_places(&buffer[0..length]);
     lists::copy(&buffer[0..length], out);
     let class = ruled.class;
     Checked {
         number: ACCEPTED,
         place: 0,
         class,
+        labels,
         length,
     }
 }

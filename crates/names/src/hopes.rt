@@ -2,11 +2,11 @@
 use crate::ACCEPTED;
 use crate::EVERY_PAIR;
 use crate::LEAST;
+use crate::places::label_ends;
 use endings::begins_jp;
 use endings::begins_prefecture;
 use endings::is_prefecture;
 use fronts::front_with;
-use labels::label_end;
 use labels::label_rule_with;
 ghost use mathlib.Core.Path.{_≡_};
 ghost use mathlib.Core.List.{_∷_, [], _++_};
@@ -81,19 +81,17 @@ fn form_grows(kanji: &[u32], form: &[u32]) -> bool
     ensures { λ r. ⌜ r ≡ grows (todayWith (now (kanji .entry))) (labels (now (form .entry))) ⌝ }
 {
     let n = form.len();
-    let a = label_end(form, 0);
-    if a >= n {
+    let ends = label_ends(form);
+    let a = ends.first;
+    let b = ends.second;
+    if ends.count == 1 {
         return one_grows(kanji, form);
     }
-    let p = a + 1;
-    let b = label_end(form, p);
-    if b >= n {
-        return two_grow(kanji, &form[0..a], &form[p..n]);
+    if ends.count == 2 {
+        return two_grow(kanji, &form[0..a], &form[a + 1..n]);
     }
-    let q = b + 1;
-    let d = label_end(form, q);
-    if d >= n {
-        return three_grow(kanji, &form[0..a], &form[p..b], &form[q..n]);
+    if ends.count == 3 {
+        return three_grow(kanji, &form[0..a], &form[a + 1..b], &form[b + 1..n]);
     }
     false
 }

@@ -9,10 +9,11 @@ use crate::LEAST;
 use crate::NOT_JP;
 use crate::NOT_PREFECTURE;
 use crate::UNFIT;
+use crate::places::label_ends;
+use crate::places::places_said;
 use endings::is_jp;
 use endings::is_prefecture;
 use fronts::front_with;
-use labels::label_end;
 use labels::label_rule_with;
 use rules::Class;
 use rules::Verdict;
@@ -98,19 +99,14 @@ fn name_rules(kanji: &[u32], form: &[u32]) -> Verdict
     ensures { λ r. ⌜ r ≡ byLabels (todayWith (now (kanji .entry))) (labels (now (form .entry))) ⌝ }
 {
     let n = form.len();
-    let a = label_end(form, 0);
-    if a >= n {
-        return refused(LABEL_COUNT, 0);
+    let ends = label_ends(form);
+    let a = ends.first;
+    let b = ends.second;
+    if ends.count == 2 {
+        return two_labels(kanji, &form[0..a], &form[a + 1..n]);
     }
-    let p = a + 1;
-    let b = label_end(form, p);
-    if b >= n {
-        return two_labels(kanji, &form[0..a], &form[p..n]);
-    }
-    let q = b + 1;
-    let d = label_end(form, q);
-    if d >= n {
-        return three_labels(kanji, &form[0..a], &form[p..b], &form[q..n]);
+    if ends.count == 3 {
+        return three_labels(kanji, &form[0..a], &form[a + 1..b], &form[b + 1..n]);
     }
     refused(LABEL_COUNT, 0)
 }
@@ -162,11 +158,15 @@ pub fn judge_with(kanji: &[u32], text: &[u32]) -> Judged
 {
     let mut form = [0u32; 256];
     let ruled = judge_into(kanji, text, &mut form);
+    let n = ruled.length;
+    let buffer: &[u32] = &form;
+    let labels = places_said(ruled.number, &buffer[0..n]);
     let class = ruled.class;
     Judged {
         number: ruled.number,
         place: ruled.place,
         class,
+        labels,
         form,
         length: ruled.length,
     }

@@ -1,9 +1,10 @@
 // The calls on a name: judge, check, whether it may yet become one, whole ASCII form. Each takes any text and any lent buffer, says by
-// itself whether the text is fit, and writes nothing where it refuses. Its meaning is defined in `rules` (specs/Rules, Kinds, Hopeful) and here in
-// specs/Calls. A call `.._with` is lent the table of kanji, so that a program names that table once; the call without names it itself.
+// itself whether the text is fit, and writes nothing where it refuses. Its meaning is defined in `rules` (specs/Rules, Kinds, Places, Hopeful) and
+// here in specs/Calls. A call `.._with` is lent the table of kanji, so that a program names that table once; the call without names it itself.
 mod checks;
 mod hopes;
 mod judges;
+mod places;
 mod usual;
 mod whole;
 
@@ -39,20 +40,22 @@ pub(crate) const LEAST: usize = 3;
 
 pub(crate) const EVERY_PAIR: bool = false;
 
-// What the judge answers.
+// What the judge answers; the labels' places are those in the normal form with 0, and none otherwise.
 pub struct Judged {
     pub number: u8,
     pub place: usize,
     pub class: rules::Class,
+    pub labels: rules::LabelPlaces,
     pub form: [u32; 256],
     pub length: usize,
 }
 
-// What the check answers.
+// What the check answers; the labels' places likewise.
 pub struct Checked {
     pub number: u8,
     pub place: usize,
     pub class: rules::Class,
+    pub labels: rules::LabelPlaces,
     pub length: usize,
 }
 

@@ -27,7 +27,8 @@ pub(crate) fn check(
     lent::fill_codes(buffer);
     let r = checked(kanji, own, text, buffer);
     let class = r.class;
-    let o = printed::put_classed(out, from, r.number, r.place, class, r.length);
+    let labels = r.labels;
+    let o = printed::put_classed(out, from, r.number, r.place, class, labels, r.length);
     lent::put_codes(out, o, buffer)
 }
 

@@ -133,17 +133,52 @@ pub(crate) fn put_unclassed(
     put_length(out, o, length)
 }
 
-// An answer with a class.
+// Is nothing said of labels, neither a count nor a start nor a length?
+fn no_label(count: usize, starts: [usize; 3], lengths: [usize; 3]) -> bool {
+    if starts[0] != 0 || starts[1] != 0 || starts[2] != 0 {
+        return false;
+    }
+    if lengths[0] != 0 || lengths[1] != 0 || lengths[2] != 0 {
+        return false;
+    }
+    count == 0
+}
+
+// A label's start and length, each after a comma.
+fn put_stand(out: &mut [u8], from: usize, start: usize, length: usize) -> usize {
+    let mut o = put_byte(out, from, b',');
+    o = put_decimal(out, o, start as u64);
+    o = put_byte(out, o, b',');
+    put_decimal(out, o, length as u64)
+}
+
+// A space and where the labels stand: the count, and start and length of each of three, or a hyphen where all are 0.
+fn put_places(out: &mut [u8], from: usize, labels: rules::LabelPlaces) -> usize {
+    let starts = labels.starts;
+    let lengths = labels.lengths;
+    let mut o = put_byte(out, from, b' ');
+    if no_label(labels.count, starts, lengths) {
+        return put_byte(out, o, b'-');
+    }
+    o = put_decimal(out, o, labels.count as u64);
+    o = put_stand(out, o, starts[0], lengths[0]);
+    o = put_stand(out, o, starts[1], lengths[1]);
+    put_stand(out, o, starts[2], lengths[2])
+}
+
+// An answer with a class and where the labels stand.
 pub(crate) fn put_classed(
     out: &mut [u8],
     from: usize,
     number: u8,
     place: usize,
     class: rules::Class,
+    labels: rules::LabelPlaces,
     length: usize,
 ) -> usize {
     let mut o = put_number(out, from, number, place);
     o = put_class(out, o, class);
+    o = put_places(out, o, labels);
     put_length(out, o, length)
 }
 

@@ -48,8 +48,9 @@ pub(crate) fn put_shown(out: &mut [u8], from: usize, form: &[u32]) -> usize {
 // What the judge says of a text, or a look at the live check.
 pub(crate) fn put_judged(out: &mut [u8], from: usize, j: names::Judged) -> usize {
     let class = j.class;
+    let labels = j.labels;
     let form = j.form;
-    let o = printed::put_classed(out, from, j.number, j.place, class, j.length);
+    let o = printed::put_classed(out, from, j.number, j.place, class, labels, j.length);
     put_shown(out, o, &form)
 }
 

@@ -1,5 +1,6 @@
 pub mod Views
 pub mod Cuts
+pub mod Places
 pub mod Says
 pub mod ByName
 pub mod Sound

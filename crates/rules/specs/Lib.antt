@@ -1,6 +1,7 @@
 pub mod Labels
 pub mod Permits
 pub mod Kinds
+pub mod Places
 pub mod Grammar
 pub mod Pretends
 pub mod Rules

@@ -2,8 +2,8 @@
 // second reader of labels, and that the three agree but for the names that pretend to be encoded (17); and which texts may yet
 // become a name. Beside them grammar and rules of a nameserver's host name, but for what needs the coder (specs/Hosts). Every
 // call that judges a name is a thin layer over `rules` (specs/Rules), and `may_become` over `hopeful` (specs/Hopeful). Which
-// kinds of Japanese characters a label holds stands in specs/Kinds. It has no call of its own: only the types that the
-// definitions and the calls share.
+// kinds of Japanese characters a label holds stands in specs/Kinds, and where labels stand in a normal form in specs/Places.
+// It has no call of its own: only the types that the definitions and the calls share.
 
 // General-use or prefecture with number 0, and none otherwise.
 pub enum Class {
@@ -18,6 +18,13 @@ pub struct Kinds {
     pub katakana: bool,
     pub kanji: bool,
     pub sign: bool,
+}
+
+// Where the labels of a normal form stand: how many there are, and start and length of each of the first three, 0 where there is none.
+pub struct LabelPlaces {
+    pub count: usize,
+    pub starts: [usize; 3],
+    pub lengths: [usize; 3],
 }
 
 // What the rules say of a text.

@@ -1,7 +1,7 @@
--- `check_with` meets its contract: 1, then what the judge says; its array holds what is written.
+-- `check_with` meets its contract: 1, then what the judge says; its array holds what is written, and the labels are those of the form.
 -- Assumes nothing.
 use native.Mathlib.Omega.{arith}
-use Rattle.names.proofs.Answering.{accepted-as, check-no-room, check-refused, check-accepted}
+use Rattle.names.proofs.Answering.{accepted-as, two-or-three-there, check-no-room, check-refused, check-accepted}
 use borrow.Author.Needs.{needs}
 use Rattle.names.proofs.checks.check_with.Statement.{statement}
 use Rattle.names.proofs.checks.check_with.Tie as tie
@@ -24,6 +24,18 @@ refused-check-requires-2 c κs = search needs
 returns-2 : tie.Need-returns-2
 returns-2 c = check-refused _ _ _ (c .before .before .before .before .before .before .before .before .before .if1 .left) (c .before .before .before .before .before .before .judge-into .ensures) (c .refused-check2 .ensures) (c .before .before .if2 .taken)
 
+sub-label-places : tie.Need-sub-label-places
+sub-label-places c = search needs
+
+part-label-places-start : tie.Need-part-label-places-start
+part-label-places-start c = search needs
+
+part-label-places-end : tie.Need-part-label-places-end
+part-label-places-end c = let p = accepted-as _ _ (c .before .before .before .before .before .judge-into .ensures) (c .before .if2 .left) in omega (arith, p .few, c .before .before .before .before .before .judge-into .kept .1 .1 .0)
+
+label-places-requires : tie.Need-label-places-requires
+label-places-requires c κs = two-or-three-there _ _ (c .before .before .before .before .before .before .judge-into .ensures) (c .before .before .if2 .left)
+
 sub-copy : tie.Need-sub-copy
 sub-copy c = search needs
 
@@ -31,7 +43,7 @@ part-copy-start : tie.Need-part-copy-start
 part-copy-start c = search needs
 
 part-copy-end : tie.Need-part-copy-end
-part-copy-end c = let p = accepted-as _ _ (c .before .before .before .before .before .judge-into .ensures) (c .before .if2 .left) in omega (arith, p .few, c .before .before .before .before .before .judge-into .kept .1 .1 .0)
+part-copy-end c = let p = accepted-as _ _ (c .before .before .before .before .before .before .before .judge-into .ensures) (c .before .before .before .if2 .left) in omega (arith, p .few, c .before .before .before .before .before .before .before .judge-into .kept .1 .1 .0)
 
 copy-requires : tie.Need-copy-requires
 copy-requires c κs = search needs
@@ -40,10 +52,13 @@ same-length : tie.Need-same-length
 same-length c = search needs
 
 returns-3 : tie.Need-returns-3
-returns-3 c = check-accepted _ _ _ (c .before .before .before .before .before .before .before .before .before .before .before .before .before .before .if1 .left) (c .before .before .before .before .before .before .before .before .before .before .before .judge-into .ensures) (c .before .before .before .before .before .before .before .if2 .left) (c .before .before .before .copy .ensures)
+returns-3 c =
+    check-accepted _ _ _ (c .before .before .before .before .before .before .before .before .before .before .before .before .before .before .before .before .if1 .left) (c .before .before .before .before .before .before .before .before .before .before .before .before .before .judge-into .ensures) (c .before .before .before .before .before .before .before .before .before .if2 .left) (c .before .before .before .before .before .before .label-places .ensures)
+    (c .before .before .before .copy .ensures)
 
 pub check-with-spec : {M : Type 1} → statement M
 check-with-spec =
     tie.close
-    (tie.spec refused-check-requires returns slice-aggregate-room judge-into-requires refused-check-requires-2 returns-2 sub-copy
-    part-copy-start part-copy-end copy-requires same-length returns-3)
+    (tie.spec refused-check-requires returns slice-aggregate-room judge-into-requires refused-check-requires-2 returns-2
+    sub-label-places part-label-places-start part-label-places-end label-places-requires sub-copy part-copy-start
+    part-copy-end copy-requires same-length returns-3)

@@ -8,7 +8,7 @@ use Rattle.rules.specs.Editions.{todayWith}
 use Rattle.rules.proofs.Cuts.{ended}
 use Rattle.labels.specs.Held.{heldIn}
 use Rattle.labels.specs.declared.Held.{Held}
-use Rattle.names.proofs.OfName.{leftmost-is}
+use Rattle.names.proofs.Cutting.{leftmost-is}
 use borrow.Author.Needs.{needs}
 use Rattle.names.proofs.whole.leftmost_kinds.Statement.{statement}
 use Rattle.names.proofs.whole.leftmost_kinds.Tie as tie

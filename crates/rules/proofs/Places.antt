@@ -1,0 +1,43 @@
+-- Cut out of a text by their starts and lengths, its labels are its labels: from each start on the text is that label and those after it,
+-- joined.
+-- Assumes nothing.
+use mathlib.Core.Path.{_≡_, refl, sym, ap, _∙_}
+use mathlib.Core.List.{List, [], _∷_, map}
+use Prim.Native.Nat.{ℕ, _+_, _≤_}
+use native.Mathlib.Omega.{arith}
+use lib.ListN.{length, take, drop}
+use lib.Seq.{take-length, take-append-seam, drop-append-add, drop-drop}
+use Rattle.rules.specs.Labels.{labels, join}
+use Rattle.rules.specs.Places.{startsFrom, upToThree, labelPlaces, pieces, cutOut, CutsBack}
+use Rattle.rules.proofs.Cuts.{join-labels}
+
+-- labels that are joined from a place of a form on are cut out of it
+cut-on : (form : List ℕ) (at : ℕ) (ls : List (List ℕ)) → drop at form ≡ join ls → pieces form (startsFrom at ls) (map length ls) ≡ ls
+unfolding pieces startsFrom join
+cut-on form at [] e = refl
+cut-on form at (l ∷ []) e = rw (e, take-length l)
+cut-on form at (l ∷ m ∷ ls) e =
+    let rest = join (m ∷ ls) in
+    let here : take (length l) (drop at form) ≡ l = rw e (take-append-seam l (0x2E ∷ rest)) in
+    let next : at + length l + 1 ≡ at + (length l + 1) = omega arith in
+    let past : drop (at + length l + 1) form ≡ rest =
+    ap (λ (n : ℕ). drop n form) next ∙ sym (drop-drop (length l + 1) at form) ∙ ap (drop (length l + 1)) e ∙ drop-append-add l (0x2E ∷ rest) 1 in
+    rw here (ap (λ (ms : List (List ℕ)). l ∷ ms) (cut-on form (at + length l + 1) (m ∷ ls) past))
+
+-- of up to three nothing is lost
+three-kept : (form : List ℕ) (ls : List (List ℕ)) → length ls ≤ 3 → pieces form (startsFrom 0 ls) (map length ls) ≡ ls → cutOut form (labelPlaces ls) ≡ ls
+unfolding cutOut labelPlaces upToThree pieces startsFrom
+three-kept form [] h e = refl
+three-kept form (a ∷ []) h e = e
+three-kept form (a ∷ b ∷ []) h e = e
+three-kept form (a ∷ b ∷ c ∷ []) h e = e
+three-kept form (a ∷ b ∷ c ∷ d ∷ ls) h e = absurd (omega arith)
+
+pub cut-back : (t : List ℕ) → length (labels t) ≤ 3 → cutOut t (labelPlaces (labels t)) ≡ labels t
+cut-back t h = three-kept t (labels t) h (cut-on t 0 (labels t) (sym (join-labels t)))
+
+-- so they are where a buffer shows the form
+pub cuts-back : (form buffer : List ℕ) (n : ℕ) → take n buffer ≡ form → length (labels form) ≤ 3 → CutsBack form buffer n (labelPlaces (labels form))
+cuts-back form buffer n e h =
+    let c = ap (λ (t : List ℕ). cutOut t (labelPlaces (labels form))) e ∙ cut-back form h in
+    record { labels-are = c; joined = ap join c ∙ join-labels form }
