@@ -1,7 +1,7 @@
 -- Where the labels of a form end: the search from 0 on comes to the first period, the search from past it to the second, and the labels are
 -- what stands between.
 -- Assumes nothing.
-use mathlib.Core.Path.{_≡_, refl, sym, ap, _∙_}
+use mathlib.Core.Path.{_≡_, sym, ap, _∙_}
 use mathlib.Core.List.{List, [], _∷_}
 use mathlib.Core.Logic.{_⊎_, inl, inr, ⊎-elim}
 use Prim.Native.Nat.{ℕ, _+_, _-_, _≤_, _<_}
@@ -12,7 +12,7 @@ use Rattle.lists.specs.Tests.{indexOf}
 use Rattle.rules.specs.Labels.{period, labels}
 use Rattle.rules.specs.Places.{startsFrom, upToThree, labelPlaces}
 use Rattle.rules.specs.declared.LabelPlaces.{LabelPlaces}
-use Rattle.rules.proofs.Cuts.{some-label, ended, last-from, first-from, by-end}
+use Rattle.rules.proofs.Cuts.{some-label, last-from, first-from, by-end}
 use Rattle.names.specs.Steps.{twoAt, threeAt, EndsAt, TwoOrThree}
 use Rattle.names.specs.declared.places.Ends.{Ends}
 

@@ -1,7 +1,7 @@
 -- The calls on a name answer a text with minus signs as they answer it with hyphens in their place (document 02, K2): what they answer is
 -- made of the rows and the normal form, and these are the same.
 -- Assumes nothing.
-use mathlib.Core.Path.{_≡_, refl, ap}
+use mathlib.Core.Path.{_≡_, ap}
 use mathlib.Core.List.{List}
 use Prim.Native.Nat.{ℕ}
 use lib.ListN.{length}

@@ -1,21 +1,19 @@
 -- A name by its labels: whether there are two or three, and which of them is empty.
 -- Assumes nothing.
-use mathlib.Core.Path.{_≡_, refl, sym, ap, _∙_}
+use mathlib.Core.Path.{_≡_, refl, sym, _∙_}
 use mathlib.Core.Bool.{Bool, true, false, _&&_, _||_, and-false}
 use mathlib.Core.List.{List, [], _∷_}
-use Prim.Native.Nat.{ℕ, _+_, _-_, _≤_, _<_}
+use Prim.Native.Nat.{ℕ}
 use native.Mathlib.Omega.{arith}
 use lib.Dec.{eqb}
-use lib.ListN.{length, take, drop, getD, length-drop}
-use lib.Seq.{take-all}
+use lib.ListN.{length}
 use borrow.Author.Tests.{eq-eqb, ne-eqb}
 use Rattle.lists.specs.Tests.{anyOf, indexOf, same}
-use Rattle.rules.specs.Labels.{period, labels}
+use Rattle.rules.specs.Labels.{labels}
 use Rattle.rules.specs.Permits.{Permits, middle, isEmpty}
 use Rattle.rules.specs.Prefectures.{prefectures}
 use Rattle.rules.specs.Rules.{byLabels, refused}
 use Rattle.rules.specs.Editions.{todayWith}
-use Rattle.rules.specs.declared.Verdict.{Verdict}
 use Rattle.rules.proofs.Steps.{empty-is, name-5, name-6}
 use Rattle.names.specs.Steps.{EndsAt}
 use Rattle.names.specs.declared.places.Ends.{Ends}

@@ -5,7 +5,7 @@ use mathlib.Core.Path.{_≡_, refl, sym, ap, _∙_}
 use mathlib.Core.Bool.{Bool, true, false}
 use mathlib.Core.List.{List}
 use mathlib.Core.Logic.{_⊎_, ⊎-elim}
-use Prim.Native.Nat.{ℕ, _≤_}
+use Prim.Native.Nat.{ℕ}
 use native.Mathlib.Omega.{arith}
 use lib.Dec.{eqb}
 use lib.ListN.{length, take}
@@ -24,7 +24,6 @@ use Rattle.rules.specs.Places.{labelPlaces, noPlaces, placesSaid, labelCount, C
 use Rattle.rules.specs.Editions.{today}
 use Rattle.rules.specs.Rules.{labelRows, nameRows, frontRows, textRows, classOf, verdict, rules}
 use Rattle.rules.specs.declared.Class.the-variants.{None}
-use Rattle.rules.specs.declared.LabelPlaces.{LabelPlaces}
 use Rattle.rules.proofs.ByName.{clear-text, text-cleared}
 use Rattle.rules.proofs.Derived.{two-or-three}
 use Rattle.rules.proofs.Places.{cuts-back}
