@@ -38,16 +38,29 @@ use Rattle.names.specs.declared.judges.Ruled.{Ruled}
 
 -- ---- any call that writes
 
-module _ {R : Type 0} (make : Verdict → ℕ → R) (rows : List Row) (text xs before : List ℕ) where
-  answers-no : {n p : ℕ} {r : R} → r ≡ make (refused n p) 0 → first rows ≡ record { number = n; place = p } → (n ≡ 0 → ⊥)
-      → Answers make rows text xs before before r
+-- `no` makes its struct of a refusal
+module _ {R : Type 0} (make : Verdict → ℕ → R) (no : ℕ → ℕ → R) (makes : (n p : ℕ) → (n ≡ 0 → ⊥) → make (refused n p) 0 ≡ no n p) (text xs before : List ℕ) where
+  refuses : (rows : List Row) {n p : ℕ} {r : R} → r ≡ no n p → first rows ≡ record { number = n; place = p } → (n ≡ 0 → ⊥) → Answers make rows text xs before before r
   unfolding verdict
-  answers-no {n} {p} q e h = record { gives = gives-no _ rows xs before e h (q ∙ rw (ne-eqb n 0 h)) }
+  refuses rows {n} {p} q e h = record { gives = gives-no _ rows xs before e h (q ∙ sym (makes n p h) ∙ rw (ne-eqb n 0 h)) }
 
-  answers-yes : {k : Class} {n : ℕ} {after : List ℕ} → first rows ≡ record { number = 0; place = 0 } → k ≡ classOf (labels (normalForm text))
-      → n ≡ length xs → after ≡ written xs before → Answers make rows text xs before after (make (accepted k) n)
-  unfolding verdict
-  answers-yes e p q w = record { gives = rw p (gives-yes _ rows xs before e q w) }
+  no-room : (least : ℕ) (rest : List Row) {r : R} → r ≡ no 1 0 → length before < least → Answers make (row 1 (ltb (length before) least) 0 ∷ rest) text xs before before r
+  no-room least rest q h = refuses _ q (hit 1 (ltb (length before) least) 0 rest (lt-ltb (length before) least h)) (λ z. omega arith)
+
+answers-yes : {R : Type 0} (make : Verdict → ℕ → R) (rows : List Row) (text xs before : List ℕ) {k : Class} {n : ℕ} {after : List ℕ}
+    → first rows ≡ record { number = 0; place = 0 } → k ≡ classOf (labels (normalForm text)) → n ≡ length xs → after ≡ written xs before
+    → Answers make rows text xs before after (make (accepted k) n)
+unfolding verdict
+answers-yes make rows text xs before e p q w = record { gives = rw p (gives-yes _ rows xs before e q w) }
+
+-- with a refusal no places are said, and no kinds
+no-places-said : (ls : List (List ℕ)) (n p : ℕ) → (n ≡ 0 → ⊥) → checked ls (refused n p) 0 ≡ refusedCheck n p
+unfolding placesSaid
+no-places-said ls n p h = rw (ne-eqb n 0 h)
+
+no-kinds-said : (P : Permits) (ls : List (List ℕ)) (n p : ℕ) → (n ≡ 0 → ⊥) → asciiFormed P ls (refused n p) 0 ≡ refusedForm n p
+unfolding kindsSaid
+no-kinds-said P ls n p h = rw (ne-eqb n 0 h)
 
 -- ---- an accepted name
 
@@ -105,15 +118,9 @@ module _ (P : Permits) (text : List ℕ) {lent after : List ℕ} {j : Ruled} (e 
 -- ---- the check
 
 module _ (P : Permits) (text before : List ℕ) where
-  -- with a refusal no places are said
-  check-no : {n p : ℕ} {r : Checked} → r ≡ refusedCheck n p → first (checkRows P text (length before)) ≡ record { number = n; place = p } → (n ≡ 0 → ⊥)
-      → Checks P text before before r
-  unfolding placesSaid
-  check-no {n} q e h = answers-no (checked _) _ text _ before (q ∙ rw (ne-eqb n 0 h)) e h
-
   pub check-no-room : {r : Checked} → r ≡ refusedCheck 1 0 → length before < 256 → Checks P text before before r
   unfolding checkRows
-  check-no-room q h = check-no q (hit 1 (ltb (length before) 256) 0 _ (lt-ltb (length before) 256 h)) (λ z. omega arith)
+  check-no-room = no-room (checked _) refusedCheck (no-places-said _) text _ before 256 (textRows P text)
 
   module _ (h : 256 ≤ length before) {lent form : List ℕ} {j : Ruled} (e : Judges P text lent form j) where
     checking : first (checkRows P text (length before)) ≡ first (textRows P text)
@@ -121,7 +128,7 @@ module _ (P : Permits) (text before : List ℕ) where
     checking = passed-over 1 (ltb (length before) 256) 0 _ (le-ltb (length before) 256 h)
 
     pub check-refused : {r : Checked} → r ≡ refusedCheck (j .number) (j .place) → (j .number ≡ 0 → ⊥) → Checks P text before before r
-    check-refused q n = check-no q (checking ∙ answer-is P text e) n
+    check-refused q n = refuses (checked _) refusedCheck (no-places-said _) text _ before _ q (checking ∙ answer-is P text e) n
 
     pub check-accepted : {after : List ℕ} {places : LabelPlaces} (z : j .number ≡ 0) → places ≡ labelPlaces (labels (take (j .length - 0) (drop 0 form)))
         → after ≡ written (take (length before) (take (j .length - 0) (drop 0 form))) before
@@ -137,15 +144,13 @@ module _ (P : Permits) (text before : List ℕ) where
 -- ---- the whole ASCII form
 
 module _ (P : Permits) (text before : List ℕ) where
-  -- with a refusal no kinds are said
   form-no : {n p : ℕ} {r : AsciiForm} → r ≡ refusedForm n p → first (asciiRows P text (length before)) ≡ record { number = n; place = p } → (n ≡ 0 → ⊥)
       → AsciiForms P text before before r
-  unfolding kindsSaid
-  form-no {n} q e h = answers-no (asciiFormed P (labels (normalForm text))) _ text _ before (q ∙ rw (ne-eqb n 0 h)) e h
+  form-no = refuses (asciiFormed P _) refusedForm (no-kinds-said P _) text _ before _
 
   pub ascii-no-room : {r : AsciiForm} → r ≡ refusedForm 1 0 → length before < 192 → AsciiForms P text before before r
   unfolding asciiRows
-  ascii-no-room q h = form-no q (hit 1 (ltb (length before) 192) 0 _ (lt-ltb (length before) 192 h)) (λ z. omega arith)
+  ascii-no-room = no-room (asciiFormed P _) refusedForm (no-kinds-said P _) text _ before 192 _
 
   module _ (h : 192 ≤ length before) where
     encoding : first (asciiRows P text (length before)) ≡ first (textRows P text ++ row 14 (anyOf (uncoded P) (labels (normalForm text))) 0 ∷ [])
