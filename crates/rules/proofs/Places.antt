@@ -25,19 +25,18 @@ cut-on form at (l ∷ m ∷ ls) e =
     rw here (ap (λ (ms : List (List ℕ)). l ∷ ms) (cut-on form (at + length l + 1) (m ∷ ls) past))
 
 -- of up to three nothing is lost
-three-kept : (form : List ℕ) (ls : List (List ℕ)) → length ls ≤ 3 → pieces form (startsFrom 0 ls) (map length ls) ≡ ls → cutOut form (labelPlaces ls) ≡ ls
+three-kept : (form : List ℕ) (ls : List (List ℕ)) → length ls ≤ 3 → pieces form (startsFrom 0 ls) (map length ls) ≡ ls
+    → (cutOut form (labelPlaces ls) ≡ ls) × (take (labelPlaces ls .count) (labelPlaces ls .lengths) ≡ map length ls)
 unfolding cutOut labelPlaces upToThree pieces startsFrom
-three-kept form [] h e = refl
-three-kept form (a ∷ []) h e = e
-three-kept form (a ∷ b ∷ []) h e = e
-three-kept form (a ∷ b ∷ c ∷ []) h e = e
+three-kept form [] h e = (refl, refl)
+three-kept form (a ∷ []) h e = (e, refl)
+three-kept form (a ∷ b ∷ []) h e = (e, refl)
+three-kept form (a ∷ b ∷ c ∷ []) h e = (e, refl)
 three-kept form (a ∷ b ∷ c ∷ d ∷ ls) h e = absurd (omega arith)
 
-pub cut-back : (t : List ℕ) → length (labels t) ≤ 3 → cutOut t (labelPlaces (labels t)) ≡ labels t
-cut-back t h = three-kept t (labels t) h (cut-on t 0 (labels t) (sym (join-labels t)))
-
--- so they are where a buffer shows the form
+-- so it is where a buffer shows the form
 pub cuts-back : (form buffer : List ℕ) (n : ℕ) → take n buffer ≡ form → length (labels form) ≤ 3 → CutsBack form buffer n (labelPlaces (labels form))
 cuts-back form buffer n e h =
-    let c = ap (λ (t : List ℕ). cutOut t (labelPlaces (labels form))) e ∙ cut-back form h in
-    record { labels-are = c; joined = ap join c ∙ join-labels form }
+    let k = three-kept form (labels form) h (cut-on form 0 (labels form) (sym (join-labels form))) in
+    let c = ap (λ (t : List ℕ). cutOut t (labelPlaces (labels form))) e ∙ k .0 in
+    record { labels-are = c; as-long = k .1; joined = ap join c ∙ join-labels form }

@@ -54,8 +54,9 @@ pieces form (s ∷ starts) (n ∷ lengths) = take n (drop s form) ∷ pieces for
 unfoldable pub cutOut : List ℕ → LabelPlaces → List (List ℕ)
 cutOut form p = take (p .count) (pieces form (p .starts) (p .lengths))
 
--- cut out of what is shown, the first n entries of a buffer, they are the labels of the rules, and joined by periods
--- they give back the normal form
+-- cut out of what is shown, the first n entries of a buffer, they are the labels of the rules, each as long as is told,
+-- and joined by periods they give back the normal form
 pub record CutsBack (form buffer : List ℕ) (n : ℕ) (p : LabelPlaces) : Type 0 where
   pub labels-are : cutOut (take n buffer) p ≡ labels form
+  pub as-long : take (p .count) (p .lengths) ≡ map length (labels form)
   pub joined : join (cutOut (take n buffer) p) ≡ form
