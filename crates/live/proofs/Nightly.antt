@@ -72,25 +72,25 @@ module _ (P : Permits) (cs : List ℕ) {j : Judged} (look : j ≡ looked P (type
     class = ap (λ (x : Judged). x .class) look ∙ same-class P cs ∙ sym (ap (λ (v : Verdict). v .class) e);
   }
 
-  -- the look after any code points and the check of that text say the same
+  -- the look after any code points and the check of that text say the same number, place and class
   pub look-and-check : {before after : List ℕ} {r : Checked} → Checks P cs before after r → 256 ≤ length before → Agrees j (checkSaid r)
   look-and-check c room = agrees (check-says P c room)
 
-  -- the same of where the labels stand
+  -- and the call for its ASCII form
+  pub look-and-ascii : Laws P → {before after : List ℕ} {r : AsciiForm} → AsciiForms P cs before after r → 192 ≤ length before → Agrees j (asciiSaid r)
+  look-and-ascii L a room = agrees (ascii-says P L a room)
+
+  -- where the labels stand is what the check of that text says
   pub look-and-places : {before after : List ℕ} {r : Checked} → Checks P cs before after r → 256 ≤ length before → j .labels ≡ r .labels
   look-and-places {r = r} c room =
       let n : r .number ≡ rules P cs .number = ap (λ (v : Verdict). v .number) (check-says P c room) in
       ap (λ (x : Judged). x .labels) look ∙ same-places P cs ∙ ap (placesSaid (labels (normalForm cs))) (sym n) ∙ sym (check-places P c)
 
-  -- and the labels are cut out of the text that is shown
+  -- and cuts the labels out of the text that is shown
   pub look-cuts : j .number ≡ 0 → CutsBack (normalForm cs) (j .form) (j .length) (j .labels)
   look-cuts z =
       let e = look ∙ live-is-nightly P cs in
       rw e (judge-cuts P cs (ap (λ (x : Judged). x .number) (sym e) ∙ z))
-
-  -- and the call for its ASCII form
-  pub look-and-ascii : Laws P → {before after : List ℕ} {r : AsciiForm} → AsciiForms P cs before after r → 192 ≤ length before → Agrees j (asciiSaid r)
-  look-and-ascii L a room = agrees (ascii-says P L a room)
 
 -- ---- a text that is typed with minus signs is shown as the same with hyphens (document 02, K2)
 

@@ -36,7 +36,7 @@ typed l (c ∷ cs) = typed (stepped l c) cs
 unfoldable pub lookedBy : {A : Type 0} → (List ℕ → A) → A → Live → A
 lookedBy says over l = pick (ltb 256 (l .count)) over (says (take (l .count) (l .text)))
 
--- at the rules of a name: past 256 it shows 3 at place 256, no label and an empty text
+-- at the rules of a name: past 256 it shows 3 at place 256, no label (document 02, K7) and an empty text
 unfoldable pub tooLong : Judged
 tooLong =
     record { number = 3; place = 256; class = None; labels = noPlaces; form = replicate 256 0; length = 0 }

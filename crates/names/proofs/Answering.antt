@@ -64,6 +64,10 @@ no-kinds-said P ls n p h = rw (ne-eqb n 0 h)
 
 -- ---- an accepted name
 
+-- its labels are two or three
+pub few-labels : (P : Permits) (text : List ℕ) → Clear (textRows P text) → TwoOrThree (normalForm text)
+few-labels P text all = two-or-three (length (labels (normalForm text))) (P .three) (clear-text P text all .1 .count)
+
 pub record Accepted (P : Permits) (text after : List ℕ) (j : Ruled) : Type 0 where
   pub clear : Clear (textRows P text)
   pub class : j .class ≡ classOf (labels (normalForm text))
@@ -98,11 +102,8 @@ module _ (P : Permits) (text : List ℕ) {lent after : List ℕ} {j : Ruled} (e 
         few = omega (arith, no-longer text);
       }
 
-  -- its labels are two or three
   pub two-or-three-there : j .number ≡ 0 → TwoOrThree (take (j .length - 0) (drop 0 after))
-  two-or-three-there z =
-      let p = accepted-as z in
-      rw (p .form) (two-or-three (length (labels (normalForm text))) (P .three) (clear-text P text (p .clear) .1 .count))
+  two-or-three-there z = let p = accepted-as z in rw (p .form) (few-labels P text (p .clear))
 
   -- where they stand is said of the text
   pub said-of-text : {places : LabelPlaces} → places ≡ placesSaid (labels (take (j .length - 0) (drop 0 after))) (j .number)

@@ -10,7 +10,7 @@ use lib.ListN.{length, take, drop, getD, length-drop}
 use lib.Seq.{take-all, length-take-le}
 use Rattle.lists.specs.Tests.{indexOf}
 use Rattle.rules.specs.Labels.{period, labels}
-use Rattle.rules.specs.Places.{startsFrom, upToThree, labelPlaces}
+use Rattle.rules.specs.Places.{startsFrom, firstThree, labelPlaces}
 use Rattle.rules.specs.declared.LabelPlaces.{LabelPlaces}
 use Rattle.rules.proofs.Cuts.{some-label, last-from, first-from, by-end}
 use Rattle.names.specs.Steps.{twoAt, threeAt, EndsAt, TwoOrThree}
@@ -84,7 +84,7 @@ module _ (t : List ℕ) {r : Ends} (E : EndsAt t r) where
   pub two-stand : r .count ≡ 2
       → _≡_ {A = LabelPlaces} (record { count = 2; starts = 0 ∷ (r .first + 1) ∷ 0 ∷ []; lengths = r .first ∷ (length t - (r .first + 1)) ∷ 0 ∷ [] })
       (labelPlaces (labels t))
-  unfolding labelPlaces upToThree startsFrom
+  unfolding labelPlaces firstThree startsFrom
   two-stand z =
       let p = E .two z in
       let a = r .first in
@@ -97,7 +97,7 @@ module _ (t : List ℕ) {r : Ends} (E : EndsAt t r) where
       → _≡_ {A = LabelPlaces}
       (record { count = 3; starts = 0 ∷ (r .first + 1) ∷ (r .second + 1) ∷ []; lengths = r .first ∷ (r .second - (r .first + 1)) ∷ (length t - (r .second + 1)) ∷ [] })
       (labelPlaces (labels t))
-  unfolding labelPlaces upToThree startsFrom
+  unfolding labelPlaces firstThree startsFrom
   three-stand z =
       let p = E .three z in
       let a = r .first in

@@ -25,27 +25,23 @@ use Rattle.rules.specs.Editions.{today}
 use Rattle.rules.specs.Rules.{labelRows, nameRows, frontRows, textRows, classOf, verdict, rules}
 use Rattle.rules.specs.declared.Class.the-variants.{None}
 use Rattle.rules.proofs.ByName.{clear-text, text-cleared}
-use Rattle.rules.proofs.Derived.{two-or-three}
 use Rattle.rules.proofs.Places.{cuts-back}
 use Rattle.rules.proofs.Today.{lending}
 use Rattle.fronts.specs.Fronts.{shown, padded}
 use Rattle.fronts.proofs.Shown.{shown-full}
 use Rattle.names.specs.Calls.{judged, checkRows, Checks}
-use Rattle.names.specs.Placed.{Stand, all-stand}
-use Rattle.names.specs.Steps.{TwoOrThree}
+use Rattle.names.specs.Placed.{AsPlaced, as-placed}
 use Rattle.names.specs.declared.Checked.{Checked}
+use Rattle.names.proofs.Answering.{few-labels}
 
 -- ---- any answer
 
 module _ (P : Permits) (text : List ℕ) where
-  few : Clear (textRows P text) → TwoOrThree (normalForm text)
-  few all = two-or-three (length (labels (normalForm text))) (P .three) (clear-text P text all .1 .count)
-
   -- with 0 the labels are cut out of what shows the form
   cut-there : {number n : ℕ} {buffer : List ℕ} → Clear (textRows P text) → number ≡ 0 → take n buffer ≡ normalForm text
       → CutsBack (normalForm text) buffer n (placesSaid (labels (normalForm text)) number)
   unfolding placesSaid
-  cut-there all z e = rw z (cuts-back (normalForm text) _ _ e (⊎-elim (λ q. omega arith) (λ q. omega arith) (few all)))
+  cut-there all z e = rw z (cuts-back (normalForm text) _ _ e (⊎-elim (λ q. omega arith) (λ q. omega arith) (few-labels P text all)))
 
 -- of a general-use name there are two, of a prefecture name three
 counts : (a : Answer) (ls : List (List ℕ)) → (a .number ≡ 0 → (length ls ≡ 2) ⊎ (length ls ≡ 3)) → placesSaid ls (a .number) .count ≡ labelCount (verdict a ls .class)
@@ -87,7 +83,7 @@ module _ (P : Permits) {text before after : List ℕ} {r : Checked} (c : Checks 
   unfolding verdict
   check-count =
       let a = first (checkRows P text (length before)) in
-      ap (λ (x : Checked). x .labels .count) (c .gives .result) ∙ counts a (labels (normalForm text)) (λ e. few P text (all-clear e))
+      ap (λ (x : Checked). x .labels .count) (c .gives .result) ∙ counts a (labels (normalForm text)) (λ e. few-labels P text (all-clear e))
       ∙ sym (ap (λ (x : Checked). labelCount (x .class)) (c .gives .result))
 
 -- ---- the judge
@@ -109,9 +105,9 @@ module _ (P : Permits) (text : List ℕ) where
 
   pub judge-count : judged P text .labels .count ≡ labelCount (judged P text .class)
   unfolding judged rules verdict
-  judge-count = counts (first (textRows P text)) (labels (normalForm text)) (λ e. few P text (text-cleared P text e))
+  judge-count = counts (first (textRows P text)) (labels (normalForm text)) (λ e. few-labels P text (text-cleared P text e))
 
 -- ---- the tried texts, at the edition in force
 
-pub placed-today : Stand today
-placed-today = lending Stand {table = kanjiBits} refl all-stand
+pub placed-today : AsPlaced today
+placed-today = lending AsPlaced {table = kanjiBits} refl as-placed

@@ -23,7 +23,7 @@ use Rattle.names.specs.declared.Judged.{Judged}
 use Rattle.names.specs.declared.Checked.{Checked}
 use Rattle.names.specs.declared.AsciiForm.{AsciiForm}
 
--- ---- the judge: what the rules say of a text, with where its labels stand (document 02, K7) and its normal form
+-- ---- the judge: what the rules say of a text, with where its labels stand and its normal form
 
 unfoldable pub judged : Permits → List ℕ → Judged
 judged P text =
@@ -44,8 +44,8 @@ pub record Answers {R : Type 0} (make : Verdict → ℕ → R) (rows : List Row)
     : Type 0 where
   pub gives : Gives (λ (a : Answer) (n : ℕ). make (verdict a (labels (normalForm text))) n) rows xs before after r
 
--- ---- the check: 1 for a buffer under 256, then the rules; with 0 it says where the labels stand and writes the normal
--- form
+-- ---- the check: 1 for a buffer under 256, then the rules; with 0 it says where the labels stand (document 02, K7) and
+-- writes the normal form
 
 unfoldable pub checkRows : Permits → List ℕ → ℕ → List Row
 checkRows P text room = row 1 (ltb room 256) 0 ∷ textRows P text

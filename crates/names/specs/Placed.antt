@@ -12,7 +12,7 @@ use Rattle.characters.specs.Replace.{ranges, rangeIn, halfKana, isHalf, replace
 use Rattle.normal.specs.Normal.{replacedFrom, compose, normalPlaced, normalForm, places}
 use Rattle.rules.specs.Labels.{period, intoFirst, labels}
 use Rattle.rules.specs.Permits.{Permits, jaChar, labelChar, middle, isEmpty}
-use Rattle.rules.specs.Places.{startsFrom, upToThree, labelPlaces, noPlaces, placesSaid}
+use Rattle.rules.specs.Places.{startsFrom, firstThree, labelPlaces, noPlaces, placesSaid}
 use Rattle.rules.specs.Rules.{unfit, middleDot, ordinary, isJapanese, beginsWithHyphen, endsWithHyphen, hyphenEdge}
 use Rattle.rules.specs.Rules.{short, long, hyphenPair, pretends, bareDot, labelRows, jp, nameRows, frontRows, textRows}
 use Rattle.rules.specs.Rules.{classOf, verdict, rules}
@@ -24,25 +24,25 @@ use Rattle.names.specs.Calls.{judged}
 -- a text, and where its labels stand
 pub record Placed : Type 0 where
   pub text : List ℕ
-  pub stand : LabelPlaces
+  pub places : LabelPlaces
 
 abbrev placed : List ℕ → ℕ → List ℕ → List ℕ → Placed
 placed text count starts lengths =
-    record { text = text; stand = record { count = count; starts = starts; lengths = lengths } }
+    record { text = text; places = record { count = count; starts = starts; lengths = lengths } }
 
 abbrev none : List ℕ → Placed
-none text = record { text = text; stand = noPlaces }
+none text = record { text = text; places = noPlaces }
 
 unfoldable pub placedTexts : List Placed
 placedTexts =
     -- ABC.JP; half-width GA, of two code points, and .jp: the start is that in the normal form
     placed (0x41 ∷ 0x42 ∷ 0x43 ∷ 0x2E ∷ 0x4A ∷ 0x50 ∷ []) 2 (0 ∷ 4 ∷ 0 ∷ []) (3 ∷ 2 ∷ 0 ∷ []) ∷
     placed (0xFF76 ∷ 0xFF9E ∷ 0x2E ∷ 0x6A ∷ 0x70 ∷ []) 2 (0 ∷ 2 ∷ 0 ∷ []) (1 ∷ 2 ∷ 0 ∷ []) ∷
-    -- the same before .gifu.jp, with three kinds of separators; 3042 and a prefecture label of kanji
+    -- the same, gifu and jp, parted by 3002 and FF0E; 3042, a prefecture label of kanji and jp, parted by 2E and FF61
     placed (0xFF76 ∷ 0xFF9E ∷ 0x3002 ∷ 0x67 ∷ 0x69 ∷ 0x66 ∷ 0x75 ∷ 0xFF0E ∷ 0x6A ∷ 0x70 ∷ []) 3 (0 ∷ 2 ∷ 7 ∷ [])
     (1 ∷ 4 ∷ 2 ∷ []) ∷
     placed (0x3042 ∷ 0x2E ∷ 0x6771 ∷ 0x4EAC ∷ 0xFF61 ∷ 0x6A ∷ 0x70 ∷ []) 3 (0 ∷ 2 ∷ 5 ∷ []) (1 ∷ 2 ∷ 2 ∷ []) ∷
-    -- refused: nothing, 2; a blank, 4; jp, 5; abc.jp. , 6; ab.jp, 8; abc.gifa.jp, 12
+    -- refused: nothing, 2; a blank before .jp, 4; jp, 5; abc.jp. , 6; ab.jp, 8; abc.gifa.jp, 12
     none [] ∷
     none (0x20 ∷ 0x2E ∷ 0x6A ∷ 0x70 ∷ []) ∷
     none (0x6A ∷ 0x70 ∷ []) ∷
@@ -51,15 +51,15 @@ placedTexts =
     none (0x61 ∷ 0x62 ∷ 0x63 ∷ 0x2E ∷ 0x67 ∷ 0x69 ∷ 0x66 ∷ 0x61 ∷ 0x2E ∷ 0x6A ∷ 0x70 ∷ []) ∷
     []
 
-abbrev pub Stand : Permits → Type 0
-Stand P = map (λ (p : Placed). judged P (p .text) .labels) placedTexts ≡ map (λ (p : Placed). p .stand) placedTexts
+abbrev pub AsPlaced : Permits → Type 0
+AsPlaced P = map (λ (p : Placed). judged P (p .text) .labels) placedTexts ≡ map (λ (p : Placed). p .places) placedTexts
 
 -- by the bits of the kanji; of the edition in force it is `placed-today` (proofs/Placing)
-pub all-stand : Stand (todayWith kanjiBits)
+pub as-placed : AsPlaced (todayWith kanjiBits)
 unfolding within allOf anyOf indexOf elem same first alnum hyphen asciiSet kinds signs stretch kindAmong kindBy
     anyKind kanjiWith kindWith voiced repeats halfVoiced eitherKana composed ranges rangeIn halfKana isHalf replaceIn
     replace replacedFrom compose normalPlaced normalForm places period intoFirst labels jaChar labelChar middle isEmpty
     unfit middleDot ordinary isJapanese beginsWithHyphen endsWithHyphen hyphenEdge short long hyphenPair pretends
     bareDot labelRows jp nameRows frontRows textRows classOf verdict rules prefectures kanjiBits todayWith startsFrom
-    upToThree labelPlaces placesSaid judged placedTexts
-all-stand = refl
+    firstThree labelPlaces placesSaid judged placedTexts
+as-placed = refl

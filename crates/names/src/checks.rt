@@ -1,4 +1,4 @@
-// The check: the judge, and with 0 the normal form is written.
+// The check: the judge, and with 0 the normal form is written and where its labels stand is told.
 use crate::ACCEPTED;
 use crate::Checked;
 use crate::NO_ROOM;

@@ -1,4 +1,4 @@
-// The judge: what the rules say of a text, with its normal form. The check asks it, the live check, and the whole ASCII form of all but the
+// The judge: what the rules say of a text, with where its labels stand and its normal form. The check asks it, the live check, and the whole ASCII form of all but the
 // usual name.
 use crate::ACCEPTED;
 use crate::EMPTY_LABEL;
@@ -168,7 +168,7 @@ pub fn judge_with(kanji: &[u32], text: &[u32]) -> Judged
         class,
         labels,
         form,
-        length: ruled.length,
+        length: n,
     }
 }
 

@@ -1,4 +1,4 @@
-// The labels of a normal form: how many there are, and where each stands. Judge and hope cut a form there, and the check tells it.
+// The labels of a normal form: how many there are, and where each stands. Judge and hope cut a form by it; check and judge tell it.
 use crate::ACCEPTED;
 use labels::label_end;
 use rules::LabelPlaces;
@@ -7,7 +7,8 @@ ghost use Rattle.rules.specs.Labels.{labels};
 ghost use Rattle.rules.specs.Places.{labelPlaces, noPlaces, placesSaid};
 ghost use Rattle.names.specs.Steps.{EndsAt, TwoOrThree};
 
-// How many labels a form has, 4 for more than three; and where the first and the second of them end.
+// How many labels a form has, 4 for more than three; and where the first and the second of them end. With one label the second end says
+// nothing.
 pub(crate) struct Ends {
     pub count: usize,
     pub first: usize,
@@ -48,7 +49,7 @@ pub(crate) fn label_ends(form: &[u32]) -> Ends
     }
 }
 
-// Where the labels of a form stand that has two or three of them.
+// Where the labels stand of a form that has two or three.
 pub(crate) fn label_places(form: &[u32]) -> LabelPlaces
     requires { ⌜ TwoOrThree (now form) ⌝ }
     ensures { λ r. ⌜ r ≡ labelPlaces (labels (now (form .entry))) ⌝ }

@@ -145,7 +145,7 @@ fn no_label(count: usize, starts: [usize; 3], lengths: [usize; 3]) -> bool {
 }
 
 // A label's start and length, each after a comma.
-fn put_stand(out: &mut [u8], from: usize, start: usize, length: usize) -> usize {
+fn put_start_and_length(out: &mut [u8], from: usize, start: usize, length: usize) -> usize {
     let mut o = put_byte(out, from, b',');
     o = put_decimal(out, o, start as u64);
     o = put_byte(out, o, b',');
@@ -161,9 +161,9 @@ fn put_places(out: &mut [u8], from: usize, labels: rules::LabelPlaces) -> usize 
         return put_byte(out, o, b'-');
     }
     o = put_decimal(out, o, labels.count as u64);
-    o = put_stand(out, o, starts[0], lengths[0]);
-    o = put_stand(out, o, starts[1], lengths[1]);
-    put_stand(out, o, starts[2], lengths[2])
+    o = put_start_and_length(out, o, starts[0], lengths[0]);
+    o = put_start_and_length(out, o, starts[1], lengths[1]);
+    put_start_and_length(out, o, starts[2], lengths[2])
 }
 
 // An answer with a class and where the labels stand.

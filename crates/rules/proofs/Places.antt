@@ -1,5 +1,5 @@
--- Cut out of a text by their starts and lengths, its labels are its labels: from each start on the text is that label and those after it,
--- joined.
+-- What starts and lengths cut out of a text of up to three labels are its labels: from each start on the text is that label and those
+-- after it, joined.
 -- Assumes nothing.
 use mathlib.Core.Path.{_≡_, refl, sym, ap, _∙_}
 use mathlib.Core.List.{List, [], _∷_, map}
@@ -8,12 +8,12 @@ use native.Mathlib.Omega.{arith}
 use lib.ListN.{length, take, drop}
 use lib.Seq.{take-length, take-append-seam, drop-append-add, drop-drop}
 use Rattle.rules.specs.Labels.{labels, join}
-use Rattle.rules.specs.Places.{startsFrom, upToThree, labelPlaces, pieces, cutOut, CutsBack}
+use Rattle.rules.specs.Places.{startsFrom, firstThree, labelPlaces, cuts, cutOut, CutsBack}
 use Rattle.rules.proofs.Cuts.{join-labels}
 
 -- labels that are joined from a place of a form on are cut out of it
-cut-on : (form : List ℕ) (at : ℕ) (ls : List (List ℕ)) → drop at form ≡ join ls → pieces form (startsFrom at ls) (map length ls) ≡ ls
-unfolding pieces startsFrom join
+cut-on : (form : List ℕ) (at : ℕ) (ls : List (List ℕ)) → drop at form ≡ join ls → cuts form (startsFrom at ls) (map length ls) ≡ ls
+unfolding cuts startsFrom join
 cut-on form at [] e = refl
 cut-on form at (l ∷ []) e = rw (e, take-length l)
 cut-on form at (l ∷ m ∷ ls) e =
@@ -25,9 +25,9 @@ cut-on form at (l ∷ m ∷ ls) e =
     rw here (ap (λ (ms : List (List ℕ)). l ∷ ms) (cut-on form (at + length l + 1) (m ∷ ls) past))
 
 -- of up to three nothing is lost
-three-kept : (form : List ℕ) (ls : List (List ℕ)) → length ls ≤ 3 → pieces form (startsFrom 0 ls) (map length ls) ≡ ls
+three-kept : (form : List ℕ) (ls : List (List ℕ)) → length ls ≤ 3 → cuts form (startsFrom 0 ls) (map length ls) ≡ ls
     → (cutOut form (labelPlaces ls) ≡ ls) × (take (labelPlaces ls .count) (labelPlaces ls .lengths) ≡ map length ls)
-unfolding cutOut labelPlaces upToThree pieces startsFrom
+unfolding cutOut labelPlaces firstThree cuts startsFrom
 three-kept form [] h e = (refl, refl)
 three-kept form (a ∷ []) h e = (e, refl)
 three-kept form (a ∷ b ∷ []) h e = (e, refl)

@@ -16,16 +16,16 @@ unfoldable pub startsFrom : ℕ → List (List ℕ) → List ℕ
 startsFrom at [] = []
 startsFrom at (l ∷ ls) = at ∷ startsFrom (at + length l + 1) ls
 
--- up to three entries; those that belong to no label are 0
-unfoldable pub upToThree : List ℕ → List ℕ
-upToThree xs = getD xs 0 0 ∷ getD xs 1 0 ∷ getD xs 2 0 ∷ []
+-- the first three entries, 0 where there are fewer
+unfoldable pub firstThree : List ℕ → List ℕ
+firstThree xs = getD xs 0 0 ∷ getD xs 1 0 ∷ getD xs 2 0 ∷ []
 
--- the count of labels and, for each of up to three, its start and length
+-- the count of labels and, for each of up to three, its start and length; those that belong to no label are 0
 unfoldable pub labelPlaces : List (List ℕ) → LabelPlaces
 labelPlaces ls = record {
   count = length ls;
-  starts = upToThree (startsFrom 0 ls);
-  lengths = upToThree (map length ls);
+  starts = firstThree (startsFrom 0 ls);
+  lengths = firstThree (map length ls);
 }
 
 -- the places of no label: the count is 0, and so is all else
@@ -36,7 +36,7 @@ noPlaces = record { count = 0; starts = 0 ∷ 0 ∷ 0 ∷ []; lengths = 0 ∷ 0 
 unfoldable pub placesSaid : List (List ℕ) → ℕ → LabelPlaces
 placesSaid ls number = pick (eqb number 0) (labelPlaces ls) noPlaces
 
--- how many labels a name of a class has; with none there is no name
+-- how many labels a name of a class has (document 01, 'The name'); with none there is no name
 unfoldable pub labelCount : Class → ℕ
 labelCount None = 0
 labelCount General = 2
@@ -45,14 +45,14 @@ labelCount Prefecture = 3
 -- ---- the labels that a printer cuts out
 
 -- the piece of a form for each start and length
-unfoldable pub pieces : List ℕ → List ℕ → List ℕ → List (List ℕ)
-pieces form [] lengths = []
-pieces form (s ∷ starts) [] = []
-pieces form (s ∷ starts) (n ∷ lengths) = take n (drop s form) ∷ pieces form starts lengths
+unfoldable pub cuts : List ℕ → List ℕ → List ℕ → List (List ℕ)
+cuts form [] lengths = []
+cuts form (s ∷ starts) [] = []
+cuts form (s ∷ starts) (n ∷ lengths) = take n (drop s form) ∷ cuts form starts lengths
 
 -- as many as are counted
 unfoldable pub cutOut : List ℕ → LabelPlaces → List (List ℕ)
-cutOut form p = take (p .count) (pieces form (p .starts) (p .lengths))
+cutOut form p = take (p .count) (cuts form (p .starts) (p .lengths))
 
 -- cut out of what is shown, the first n entries of a buffer, they are the labels of the rules, each as long as is told,
 -- and joined by periods they give back the normal form
