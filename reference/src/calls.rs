@@ -1,7 +1,7 @@
 //! The calls with lent buffers. A refused call leaves its buffer untouched;
 //! an accepted one writes its start alone.
 
-use crate::answer::{Answer, Class, Refusal};
+use crate::answer::{Answer, Class, LabelPlaces, Refusal};
 use crate::batch;
 use crate::chars::Kinds;
 use crate::coder;
@@ -22,7 +22,8 @@ fn lend<T: Copy>(buffer: &mut [T], room: usize, outcome: impl FnOnce() -> Outcom
         Err(refusal) => refusal.into(),
         Ok((written, class)) => {
             buffer[..written.len()].copy_from_slice(&written);
-            Answer { number: 0, place: 0, class, kinds: Kinds::new(), length: written.len() }
+            let (kinds, labels) = (Kinds::new(), LabelPlaces::default());
+            Answer { number: 0, place: 0, class, kinds, labels, length: written.len() }
         }
     }
 }
@@ -34,11 +35,15 @@ pub fn normal_form(text: &[u32], buffer: &mut [u32]) -> Answer {
     })
 }
 
+/// The one call that tells where the labels stand.
 pub fn check(text: &[u32], buffer: &mut [u32]) -> Answer {
-    lend(buffer, 256, || {
+    let mut labels = LabelPlaces::default();
+    let answer = lend(buffer, 256, || {
         let accepted = name::check(text)?;
+        labels = accepted.places;
         Ok((accepted.normal, Some(accepted.class)))
-    })
+    });
+    Answer { labels, ..answer }
 }
 
 /// The one call that tells kinds.

@@ -1,9 +1,10 @@
 //! The live check: it shows, after each code point, what the check says of
-//! all that was read, and the normal form of it. A look at a host shows what the
+//! all that was read, and the normal form of it. Where that is a name it shows
+//! where the labels stand, as the check does (K7). A look at a host shows what the
 //! rules of hosts say instead. It also says whether what was read may yet become
 //! a name.
 
-use crate::answer::{Class, Refusal};
+use crate::answer::{Class, LabelPlaces, Refusal};
 use crate::hope;
 use crate::host;
 use crate::name::{self, LONGEST_TEXT};
@@ -21,6 +22,7 @@ pub struct Shown {
     pub number: u8,
     pub place: usize,
     pub class: Option<Class>,
+    pub labels: LabelPlaces,
     pub length: usize,
     pub text: [u32; LONGEST_TEXT],
 }
@@ -38,10 +40,14 @@ impl Live {
 
     /// What the check says.
     pub fn look(&self) -> Shown {
-        self.show(name::check(&self.read).map(|accepted| Some(accepted.class)))
+        let checked = name::check(&self.read);
+        let labels = checked.as_ref().map(|accepted| accepted.places).unwrap_or_default();
+        let shown = self.show(checked.map(|accepted| Some(accepted.class)));
+        Shown { labels, ..shown }
     }
 
-    /// What the rules of hosts say, given room. Hosts have no class.
+    /// What the rules of hosts say, given room. Hosts have no class and no places
+    /// of labels.
     pub fn look_at_host(&self) -> Shown {
         self.show(host::ascii_form(&self.read).map(|_form| None))
     }
@@ -57,7 +63,7 @@ impl Live {
         };
         let mut text = [0; LONGEST_TEXT];
         text[..normal.len()].copy_from_slice(&normal);
-        Shown { number, place, class, length: normal.len(), text }
+        Shown { number, place, class, labels: LabelPlaces::default(), length: normal.len(), text }
     }
 
     pub fn may_become(&self) -> bool {

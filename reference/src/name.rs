@@ -1,6 +1,6 @@
 //! The name rules in the order of document 01, with row 17 of document 02's K3.
 
-use crate::answer::{Class, Refusal};
+use crate::answer::{Class, LabelPlaces, Refusal};
 use crate::chars::{is_ascii_set, is_japanese, kinds, Kinds, HYPHEN, MIDDLE_DOT, PERIOD};
 use crate::coder;
 use crate::normal::{labels, normal_form, placed_normal_form};
@@ -30,6 +30,8 @@ pub struct Accepted {
     pub normal: Vec<u32>,
     pub labels: Vec<Vec<u32>>,
     pub class: Class,
+    /// Where the labels stand in the normal form.
+    pub places: LabelPlaces,
 }
 
 /// The whole ASCII form of such a name.
@@ -195,6 +197,20 @@ pub fn check_leftmost(label: &[u32]) -> Result<(), Refusal> {
     check_label(label, OF_NAMES, 0)
 }
 
+/// Where labels stand in the text that they make when they are joined by periods
+/// (K7): the first at its start, each other one after the period that follows the
+/// one before.
+pub fn label_places(labels: &[Vec<u32>]) -> LabelPlaces {
+    let mut places = LabelPlaces { count: labels.len(), ..LabelPlaces::default() };
+    let mut start = 0;
+    for (order, label) in labels.iter().enumerate() {
+        places.starts[order] = start;
+        places.lengths[order] = label.len();
+        start += label.len() + 1;
+    }
+    places
+}
+
 /// The whole check, given room: refusals 2 to 12, and 17 after 9.
 pub fn check(text: &[u32]) -> Result<Accepted, Refusal> {
     let normal = read(text)?;
@@ -212,7 +228,8 @@ pub fn check(text: &[u32]) -> Result<Accepted, Refusal> {
         _ if is_prefecture_label(&labels[1]) => Class::Prefecture,
         _ => return Err(Refusal::plain(12)),
     };
-    Ok(Accepted { normal, labels, class })
+    let places = label_places(&labels);
+    Ok(Accepted { normal, labels, class, places })
 }
 
 /// A label as it stands in the ASCII form: a Japanese one is encoded, an ASCII

@@ -43,7 +43,7 @@ fn read_and_answer(line: &[u8]) -> Option<String> {
 fn on_numbers(call: &str, lent: usize, numbers: &[u32]) -> Option<String> {
     Some(match call {
         "N" => in_points(lent, |buffer| plain(&calls::normal_form(numbers, buffer))),
-        "C" | "c" => in_points(lent, |buffer| classed(&calls::check(numbers, buffer))),
+        "C" | "c" => in_points(lent, |buffer| with_labels(&calls::check(numbers, buffer))),
         "A" | "a" => in_octets(lent, |buffer| with_kinds(&calls::ascii_form(numbers, buffer))),
         "E" => in_octets(lent, |buffer| plain(&calls::encode_label(numbers, buffer))),
         "H" | "h" => in_octets(lent, |buffer| plain(&calls::host_form(numbers, buffer))),
@@ -102,9 +102,9 @@ fn plain(answer: &Answer) -> String {
     format!("{} {} {}", answer.number, answer.place, answer.length)
 }
 
-fn classed(answer: &Answer) -> String {
-    let class = Class::letter(answer.class);
-    format!("{} {} {class} {}", answer.number, answer.place, answer.length)
+fn with_labels(answer: &Answer) -> String {
+    let (class, labels) = (Class::letter(answer.class), answer.labels.word());
+    format!("{} {} {class} {labels} {}", answer.number, answer.place, answer.length)
 }
 
 fn with_kinds(answer: &Answer) -> String {
@@ -162,11 +162,11 @@ fn with_text(head: String, shown: &Shown) -> String {
 /// same of the whole text.
 fn live(numbers: &[u32]) -> String {
     let shown = stepped(numbers).look();
-    let class = Class::letter(shown.class);
-    with_text(format!("{} {} {class} {}", shown.number, shown.place, shown.length), &shown)
+    let (class, labels) = (Class::letter(shown.class), shown.labels.word());
+    with_text(format!("{} {} {class} {labels} {}", shown.number, shown.place, shown.length), &shown)
 }
 
-/// The same of a host, which has no class.
+/// The same of a host, which has no class and no places of labels.
 fn live_host(numbers: &[u32]) -> String {
     let shown = stepped(numbers).look_at_host();
     with_text(format!("{} {} {}", shown.number, shown.place, shown.length), &shown)

@@ -1,6 +1,6 @@
 //! Two routes to the same answer, held against each other.
 
-use reference::answer::{Class, Refusal};
+use reference::answer::{Class, LabelPlaces, Refusal};
 use reference::cases::hosts::HostMaker;
 use reference::cases::random::{accepted_lines, any_label, NameMaker};
 use reference::live::Live;
@@ -149,8 +149,12 @@ fn live_check_shows_the_check_of_every_beginning() {
         }
         for end in 0..=text.len() {
             let (read, shown) = (&text[..end], live.look());
-            let number = name::check(read).err().map_or(0, |refusal| refusal.number);
-            assert_eq!(shown.number, number);
+            let (number, place, class, labels) = match name::check(read) {
+                Ok(name) => (0, 0, Some(name.class), name.places),
+                Err(no) => (no.number, no.place, None, LabelPlaces::default()),
+            };
+            assert_eq!((shown.number, shown.place), (number, place));
+            assert_eq!((shown.class, shown.labels), (class, labels));
             let normal = if end > 256 { Vec::new() } else { normal::normal_form(read) };
             assert_eq!(shown.text[..shown.length], normal);
             assert!(shown.text[shown.length..].iter().all(|code| *code == 0));
@@ -306,8 +310,8 @@ fn prefecture_names_are_hosts() {
     assert!(same > 1_000 && paired > 20, "{same} the same, {paired} with the pair");
 }
 
-/// A look at a host shows the number and place of the rules of hosts, no class,
-/// and the text that a look at a name shows.
+/// A look at a host shows the number and place of the rules of hosts, no class, no
+/// places of labels, and the text that a look at a name shows.
 #[test]
 fn live_check_shows_the_rules_of_hosts_on_every_beginning() {
     let mut random = Random::seeded(12);
@@ -323,6 +327,7 @@ fn live_check_shows_the_rules_of_hosts_on_every_beginning() {
             let (shown, as_name) = (live.look_at_host(), live.look());
             let judged = host::ascii_form(&text[..end]).err().map_or((0, 0), |no| (no.number, no.place));
             assert_eq!((shown.number, shown.place, shown.class), (judged.0, judged.1, None));
+            assert_eq!(shown.labels, LabelPlaces::default());
             assert_eq!((shown.length, shown.text), (as_name.length, as_name.text));
             text.get(end).into_iter().for_each(|code| live.step(*code));
         }

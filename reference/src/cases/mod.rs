@@ -16,6 +16,7 @@ pub mod names;
 pub mod octets;
 pub mod own;
 pub mod pairs;
+pub mod places;
 pub mod random;
 pub mod scripts;
 pub mod tried;
@@ -131,5 +132,6 @@ pub fn all_lines() -> Vec<String> {
     forms::add(&mut file);
     duplicates::add(&mut file);
     scripts::add(&mut file);
+    places::add(&mut file);
     file.into_lines()
 }
