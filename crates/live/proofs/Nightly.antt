@@ -36,7 +36,7 @@ module _ (P : Permits) where
   unfolding looked
   live-is-nightly cs = live-is (judged P) tooLong past cs
 
-  -- part by part: number, place and class are the rules', the labels' places too, and up to 256 code points the text is their normal form
+  -- part by part: number, place and class are the rules', the label places too, and up to 256 code points the text is their normal form
   module _ (cs : List ℕ) where
     pub same-number : looked P (typed fresh cs) .number ≡ rules P cs .number
     unfolding judged

@@ -1,5 +1,5 @@
-// The judge: what the rules say of a text, with where its labels stand and its normal form. The check asks it, the live check, and the whole ASCII form of all but the
-// usual name.
+// The judge: what the rules say of a text, with where its labels stand and its normal form. The check asks it, the live check, and the
+// whole ASCII form of all but the usual name.
 use crate::ACCEPTED;
 use crate::EMPTY_LABEL;
 use crate::EVERY_PAIR;

@@ -40,7 +40,7 @@ pub(crate) const LEAST: usize = 3;
 
 pub(crate) const EVERY_PAIR: bool = false;
 
-// What the judge answers; the labels' places are those in the normal form with 0, and none otherwise.
+// What the judge answers; the label places are those of the normal form with 0, and none otherwise.
 pub struct Judged {
     pub number: u8,
     pub place: usize,
@@ -50,7 +50,7 @@ pub struct Judged {
     pub length: usize,
 }
 
-// What the check answers; the labels' places likewise.
+// What the check answers; the label places likewise.
 pub struct Checked {
     pub number: u8,
     pub place: usize,
