@@ -20,6 +20,12 @@ use Rattle.names.specs.declared.places.Ends.{Ends}
 pub leftmost-is : (t : List ℕ) (a : ℕ) → a ≡ 0 + indexOf period (drop 0 t) → take (a - 0) (drop 0 t) ≡ getD (labels t) 0 []
 leftmost-is t a s = by-end t 0 a (omega arith) s (λ rest e. sym (ap (λ (ls : List (List ℕ)). getD ls 0 []) e))
 
+-- the last label reaches to the end
+last-is : (t : List ℕ) (i e : ℕ) → i ≤ length t → e ≡ i + indexOf period (drop i t) → length t ≤ e
+    → labels (drop i t) ≡ take (length t - i) (drop i t) ∷ []
+last-is t i e h s k =
+    last-from t i e h s k ∙ ap (λ (l : List ℕ). l ∷ []) (sym (take-all (length t - i) (drop i t) (omega (arith, length-drop i t))))
+
 -- ---- how many there are
 
 -- the search from 0 came to a, that from a + 1 to b, that from b + 1 to d
@@ -35,9 +41,7 @@ module _ (t : List ℕ) (a : ℕ) (sa : a ≡ 0 + indexOf period (drop 0 t)) whe
 
     pub ends-two : length t ≤ b → EndsAt t (record { count = 2; first = a; second = b })
     ends-two k =
-        let w : take (length t - (a + 1)) (drop (a + 1) t) ≡ drop (a + 1) t =
-        take-all (length t - (a + 1)) (drop (a + 1) t) (omega (arith, length-drop (a + 1) t)) in
-        let e : labels t ≡ twoAt t a = rw (w, first-is, last-from t (a + 1) b (omega arith) sb k) in
+        let e : labels t ≡ twoAt t a = rw (first-is, last-is t (a + 1) b (omega arith) sb k) in
         record { few = λ h. sym (ap length e); one = λ z. absurd (omega arith); two = λ z. (ka, e); three = λ z. absurd (omega arith) }
 
     module _ (kb : b < length t) (d : ℕ) (sd : d ≡ b + 1 + indexOf period (drop (b + 1) t)) where
@@ -46,9 +50,7 @@ module _ (t : List ℕ) (a : ℕ) (sa : a ≡ 0 + indexOf period (drop 0 t)) whe
 
       pub ends-three : length t ≤ d → EndsAt t (record { count = 3; first = a; second = b })
       ends-three k =
-          let w : take (length t - (b + 1)) (drop (b + 1) t) ≡ drop (b + 1) t =
-          take-all (length t - (b + 1)) (drop (b + 1) t) (omega (arith, length-drop (b + 1) t)) in
-          let e : labels t ≡ threeAt t a b = rw (w, two, last-from t (b + 1) d (omega arith) sd k) in
+          let e : labels t ≡ threeAt t a b = rw (two, last-is t (b + 1) d (omega arith) sd k) in
           record {
             few = λ h. sym (ap length e);
             one = λ z. absurd (omega arith);
@@ -71,6 +73,9 @@ module _ (t : List ℕ) (a : ℕ) (sa : a ≡ 0 + indexOf period (drop 0 t)) whe
 part-length : (t : List ℕ) (i e : ℕ) → i ≤ e → e ≤ length t → length (take (e - i) (drop i t)) ≡ e - i
 part-length t i e h k = length-take-le (e - i) (drop i t) (omega (arith, length-drop i t))
 
+head-length : (t : List ℕ) (a : ℕ) → a < length t → length (take (a - 0) (drop 0 t)) ≡ a
+head-length t a h = part-length t 0 a (omega arith) (omega arith) ∙ omega arith
+
 module _ (t : List ℕ) {r : Ends} (E : EndsAt t r) where
   counted : TwoOrThree t → (r .count ≡ 2) ⊎ (r .count ≡ 3)
   counted h = ⊎-elim (λ e. inl (E .few (omega arith) ∙ e)) (λ e. inr (E .few (omega arith) ∙ e)) h
@@ -88,7 +93,7 @@ module _ (t : List ℕ) {r : Ends} (E : EndsAt t r) where
   two-stand z =
       let p = E .two z in
       let a = r .first in
-      let la : length (take (a - 0) (drop 0 t)) ≡ a = part-length t 0 a (omega arith) (omega (arith, p .0)) ∙ omega arith in
+      let la = head-length t a (p .0) in
       let lb = part-length t (a + 1) (length t) (omega (arith, p .0)) (omega arith) in
       let s : 0 + a + 1 ≡ a + 1 = omega arith in
       rw (p .1, la, lb, s)
@@ -102,7 +107,7 @@ module _ (t : List ℕ) {r : Ends} (E : EndsAt t r) where
       let p = E .three z in
       let a = r .first in
       let b = r .second in
-      let la : length (take (a - 0) (drop 0 t)) ≡ a = part-length t 0 a (omega arith) (omega (arith, p .0, p .1)) ∙ omega arith in
+      let la = head-length t a (omega (arith, p .0, p .1)) in
       let lb = part-length t (a + 1) b (omega (arith, p .0)) (omega (arith, p .1)) in
       let lc = part-length t (b + 1) (length t) (omega (arith, p .1)) (omega arith) in
       let s : 0 + a + 1 ≡ a + 1 = omega arith in

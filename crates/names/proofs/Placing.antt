@@ -5,10 +5,10 @@ use mathlib.Core.Path.{_≡_, refl, sym, ap, _∙_}
 use mathlib.Core.Bool.{Bool, true, false}
 use mathlib.Core.List.{List}
 use mathlib.Core.Logic.{_⊎_, ⊎-elim}
-use Prim.Native.Nat.{ℕ}
+use Prim.Native.Nat.{ℕ, _≤_}
 use native.Mathlib.Omega.{arith}
 use lib.Dec.{eqb}
-use lib.ListN.{length, take}
+use lib.ListN.{length, take, getD}
 use lib.Seq.{take-append-seam}
 use borrow.Author.Tests.{eqb-true, ne-eqb}
 use Rattle.lists.specs.Tests.{pick, allOf}
@@ -25,7 +25,7 @@ use Rattle.rules.specs.Editions.{today}
 use Rattle.rules.specs.Rules.{labelRows, nameRows, frontRows, textRows, classOf, verdict, rules}
 use Rattle.rules.specs.declared.Class.the-variants.{None}
 use Rattle.rules.proofs.ByName.{clear-text, text-cleared}
-use Rattle.rules.proofs.Places.{cuts-back}
+use Rattle.rules.proofs.Places.{cuts-back, absent-zero}
 use Rattle.rules.proofs.Today.{lending}
 use Rattle.fronts.specs.Fronts.{shown, padded}
 use Rattle.fronts.proofs.Shown.{shown-full}
@@ -67,6 +67,10 @@ module _ (P : Permits) {text before after : List ℕ} {r : Checked} (c : Checks 
   unfolding placesSaid
   check-none h = check-places ∙ rw (ne-eqb (r .number) 0 h)
 
+  -- what belongs to no label is 0
+  pub check-absent : (i : ℕ) → r .labels .count ≤ i → (getD (r .labels .starts) i 0 ≡ 0) × (getD (r .labels .lengths) i 0 ≡ 0)
+  check-absent i h = rw check-places (absent-zero (labels (normalForm text)) (r .number) i (rw check-places at h))
+
   all-clear : first (checkRows P text (length before)) .number ≡ 0 → Clear (textRows P text)
   unfolding checkRows textRows frontRows nameRows labelRows refusing allOf
   all-clear e = accepted-clear (checkRows P text (length before)) refl e .1
@@ -96,6 +100,11 @@ module _ (P : Permits) (text : List ℕ) where
   pub judge-none : (judged P text .number ≡ 0 → ⊥) → judged P text .labels ≡ noPlaces
   unfolding judged placesSaid
   judge-none h = rw (ne-eqb (rules P text .number) 0 h)
+
+  pub judge-absent : (i : ℕ) → judged P text .labels .count ≤ i
+      → (getD (judged P text .labels .starts) i 0 ≡ 0) × (getD (judged P text .labels .lengths) i 0 ≡ 0)
+  unfolding judged
+  judge-absent = absent-zero (labels (normalForm text)) (rules P text .number)
 
   pub judge-cuts : judged P text .number ≡ 0 → CutsBack (normalForm text) (judged P text .form) (judged P text .length) (judged P text .labels)
   unfolding judged padded
