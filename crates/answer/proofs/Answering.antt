@@ -9,20 +9,20 @@ use native.Mathlib.Omega.{arith}
 use lib.Dec.{ltb}
 use lib.ListN.{length, take, drop, length-drop, length-take}
 use lib.Seq.{take-all, take-at, length-take-le}
-use borrow.Author.Tests.{lt-ltb, le-ltb, le-leb, lt-leb}
+use borrow.Author.Tests.{ne-eqb, lt-ltb, le-ltb, le-leb, lt-leb}
 use Rattle.lists.specs.Tests.{pick, indexOf}
 use Rattle.lists.specs.Front.{written, Puts}
 use Rattle.lists.specs.Rows.{first}
 use Rattle.lists.specs.declared.Answer.{Answer}
-use Rattle.lists.proofs.Laws.{both, lt-or-le}
+use Rattle.lists.proofs.Laws.{both, by-test, lt-or-le}
 use Rattle.lists.proofs.Pieces.{nothing}
 use Rattle.lists.proofs.Scan.{found-inside}
 use Rattle.lists.proofs.Tables.{passed-over, refused-before}
 use Rattle.normal.specs.Normal.{normalForm}
 use Rattle.rules.specs.Labels.{labels}
 use Rattle.rules.specs.Permits.{Permits}
-use Rattle.rules.specs.Rules.{frontRows, nameRows, textRows, verdict}
-use Rattle.rules.proofs.Steps.{front-3}
+use Rattle.rules.specs.Rules.{textRows, verdict}
+use Rattle.rules.proofs.Steps.{front-3, first-25, first-front}
 use Rattle.names.specs.Calls.{asciiRows, kindsSaid}
 use Rattle.lines.specs.declared.Parts.the-variants.{Two, Other}
 use Rattle.unicode.specs.Utf8.{decoded}
@@ -30,21 +30,20 @@ use Rattle.lines.specs.Fields.{tab, idOf, nameOf, oneTab, goodId, partsOf}
 use Rattle.answer.specs.Answer.{badLine, refusedAnswer, badAnswer, goodAnswer, answerTo}
 use Rattle.answer.specs.Answers.{most, Writes, fieldsAnswer}
 
--- ---- a text of more than 256 code points is refused with 3 at 256, whatever it holds
+-- ---- a text of more than 256 code points is refused with 3 at 256, or with 25 by no edition, whatever it holds
 
 module _ (P : Permits) (id : List ℕ) where
-  over : (text : List ℕ) → 256 < length text → first (asciiRows P text 192) ≡ record { number = 3; place = 256 }
-  unfolding asciiRows textRows
-  over text h =
-      let e = front-3 P text (λ z. omega arith) h in
-      let f : first (frontRows P text ++ nameRows P (labels (normalForm text))) ≡ record { number = 3; place = 256 } =
-      refused-before (frontRows P text) _ (λ z. omega (arith, ap (λ (a : Answer). a .number) e)) ∙ e in
-      passed-over 1 (ltb 192 192) 0 _ refl
-      ∙ refused-before (frontRows P text ++ nameRows P (labels (normalForm text))) _ (λ z. omega (arith, ap (λ (a : Answer). a .number) f)) ∙ f
+  refused-line : (text : List ℕ) {n p : ℕ} → first (textRows P text) ≡ record { number = n; place = p } → (n ≡ 0 → ⊥) → goodAnswer P id text ≡ refusedAnswer id n p
+  unfolding goodAnswer refusedAnswer verdict kindsSaid asciiRows
+  refused-line text {n} {p} e h =
+      let f : first (asciiRows P text 192) ≡ record { number = n; place = p } = passed-over 1 (ltb 192 192) 0 _ refl ∙ refused-before (textRows P text) _ (λ z. h (sym (ap (λ (a : Answer). a .number) e) ∙ z)) ∙ e in
+      rw (f, ne-eqb n 0 h)
 
-  over-line : (text : List ℕ) → 256 < length text → goodAnswer P id text ≡ refusedAnswer id 3 256
-  unfolding goodAnswer refusedAnswer verdict kindsSaid
-  over-line text h = rw (over text h)
+  over-line : (text : List ℕ) → 256 < length text → goodAnswer P id text ≡ pick (P .known) (refusedAnswer id 3 256) (refusedAnswer id 25 0)
+  over-line text h =
+      by-test (λ b. P .known ≡ b → goodAnswer P id text ≡ pick b (refusedAnswer id 3 256) (refusedAnswer id 25 0)) (P .known)
+      (λ p k. refused-line text (first-front P text (front-3 P text (λ z. omega arith) h) k (λ z. omega arith)) (λ z. omega arith))
+      (λ p k. refused-line text (first-25 P text k) (λ z. omega arith)) refl
 
   -- so its first 257 say the same
   pub cut : (text : List ℕ) → goodAnswer P id (take 257 text) ≡ goodAnswer P id text

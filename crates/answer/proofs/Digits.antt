@@ -2,19 +2,19 @@
 -- most 256 code points, or of at most three labels, or 256 itself.
 -- Assumes nothing.
 use mathlib.Core.Path.{_≡_, refl, ap}
-use mathlib.Core.Bool.{Bool, true, false, _&&_, _||_}
+use mathlib.Core.Bool.{Bool, true, false, not, _&&_, _||_}
 use mathlib.Core.List.{List, [], _∷_, _++_}
 use mathlib.Core.Logic.{⊎-elim}
 use Prim.Native.Nat.{ℕ, _+_, _/_, _≤_, _<_}
 use native.Mathlib.Omega.{arith}
 use lib.Dec.{eqb, leb, ltb}
 use lib.ListN.{length, getD}
-use borrow.Author.Tests.{le-leb, leb-true}
+use borrow.Author.Tests.{eqb-true, le-leb, leb-true}
 use Rattle.lists.specs.Tests.{allOf, anyOf, indexOf}
 use Rattle.lists.specs.Rows.{Row, row, first}
 use Rattle.lists.specs.declared.Answer.{Answer}
-use Rattle.lists.proofs.Laws.{lt-or-le, index-bound}
-use Rattle.lists.proofs.Tables.{of-two, of-rows}
+use Rattle.lists.proofs.Laws.{either, lt-or-le, index-bound}
+use Rattle.lists.proofs.Tables.{of-two, of-rows, only, never-given}
 use Rattle.normal.specs.Normal.{normalForm, places}
 use Rattle.normal.proofs.Origins.{began-inside}
 use Rattle.rules.specs.Labels.{labels}
@@ -67,14 +67,20 @@ pub place-bound : (P : Permits) (text : List ℕ) (room : ℕ) → first (asciiR
 unfolding asciiRows textRows allOf
 place-bound P text room =
     let ls = labels (normalForm text) in
-    of-two Near (row 1 (ltb room 192) 0 ∷ []) _ (all-near (row 1 (ltb room 192) 0 ∷ []) refl)
+    of-two Near (row 1 (ltb room 192) 0 ∷ row 25 (not (P .known)) 0 ∷ []) _ (all-near (row 1 (ltb room 192) 0 ∷ row 25 (not (P .known)) 0 ∷ []) refl)
     (of-two Near (frontRows P text ++ nameRows P ls) _ (of-two Near (frontRows P text) (nameRows P ls) (front-near P text) (name-near P ls))
     (all-near (row 14 (anyOf (uncoded P) ls) 0 ∷ []) refl))
 
--- 17 is the largest; a bad line has 16
-pub number-bound : (P : Permits) (text : List ℕ) (room : ℕ) → first (asciiRows P text room) .number ≤ 17
+-- 25 is the largest, and by an edition that there is 17; a bad line has 16
+pub number-bound : (P : Permits) (text : List ℕ) (room : ℕ) → first (asciiRows P text room) .number ≤ 25
 unfolding asciiRows textRows frontRows nameRows labelRows allOf
-number-bound P text room = leb-true _ 17 (of-rows (λ (a : Answer). leb (a .number) 17) refl (asciiRows P text room) refl)
+number-bound P text room = leb-true _ 25 (of-rows (λ (a : Answer). leb (a .number) 25) refl (asciiRows P text room) refl)
+
+pub known-bound : (P : Permits) (text : List ℕ) (room : ℕ) → P .known ≡ true → first (asciiRows P text room) .number ≤ 17
+unfolding asciiRows textRows frontRows nameRows labelRows allOf only
+known-bound P text room k =
+    either _ _ (of-rows (λ (a : Answer). leb (a .number) 17 || eqb (a .number) 25) refl (asciiRows P text room) refl) (leb-true _ 17)
+    (λ e. absurd (never-given 25 (λ z. omega arith) (asciiRows P text room) (ap not k, tt) (eqb-true _ 25 e)))
 
 -- ---- so the digits of an answer say its number and its place
 

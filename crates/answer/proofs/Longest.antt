@@ -18,7 +18,7 @@ use Rattle.rules.specs.Labels.{labels, join}
 use Rattle.rules.specs.Permits.{Permits, ShortMiddles}
 use Rattle.rules.specs.Rules.{verdict}
 use Rattle.rules.specs.Editions.{today, todayWith}
-use Rattle.rules.proofs.Today.{lending, lent-short}
+use Rattle.rules.proofs.Editions.{lending, lent-short}
 use Rattle.rules.specs.Kinds.{noKinds}
 use Rattle.rules.specs.declared.Kinds.{Kinds}
 use Rattle.rules.specs.declared.Class.{Class}
@@ -92,7 +92,7 @@ module _ (table : List ℕ) where
       go : (b : Bool) → eqb (first (asciiRows edition text 192) .number) 0 ≡ b
           → length (answerLine id (v .number) (v .place) (v .class) (pick b (asciiForm edition (normalForm text)) (0x2D ∷ [])) ks) ≤ 256
       go true e =
-          omega (arith, line-length id (v .number) (v .place) (v .class) (asciiForm edition (normalForm text)) ks, form-short edition (lent-short table) text (eqb-true _ 0 e))
+          omega (arith, line-length id (v .number) (v .place) (v .class) (asciiForm edition (normalForm text)) ks, form-short edition (lent-short table 4) text (eqb-true _ 0 e))
       go false e = omega (arith, line-length id (v .number) (v .place) (v .class) (0x2D ∷ []) ks)
 
   pub longest : (line : List ℕ) → length (answerTo edition line) ≤ 256
@@ -105,4 +105,4 @@ module _ (table : List ℕ) where
 
 -- at the edition in force
 pub longest-today : (line : List ℕ) → length (answerTo today line) ≤ 256
-longest-today line = lending (λ (P : Permits). length (answerTo P line) ≤ 256) {table = kanjiBits} refl (longest kanjiBits line)
+longest-today line = lending (λ (P : Permits). length (answerTo P line) ≤ 256) 4 {table = kanjiBits} refl (longest kanjiBits line)

@@ -9,7 +9,7 @@ use Rattle.normal.specs.Normal.{normalForm}
 use Rattle.rules.specs.Permits.{Permits}
 use Rattle.rules.specs.Pretends.{PlainMiddles}
 use Rattle.rules.specs.Editions.{today}
-use Rattle.rules.proofs.Today.{today-plain}
+use Rattle.rules.proofs.Editions.{today-plain}
 use Rattle.names.proofs.OneForm.{one-form, rows-give}
 use Rattle.answer.specs.Answer.{textOf, answerTo}
 use Rattle.answer.proofs.Fields.{fieldOf, form-field, zero-said}

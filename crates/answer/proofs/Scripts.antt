@@ -17,7 +17,7 @@ use Rattle.rules.specs.Permits.{Permits, isEmpty}
 use Rattle.rules.specs.Kinds.{found, kindsIn}
 use Rattle.rules.specs.Editions.{today}
 use Rattle.rules.specs.declared.Kinds.{Kinds}
-use Rattle.rules.proofs.Today.{lending}
+use Rattle.rules.proofs.Editions.{lending}
 use Rattle.answer.specs.Answer.{letterIf, kindLetters, kindField, answerTo}
 use Rattle.answer.specs.Examples.{toldOf, triedLabels, triedFields, tried-kinds}
 use Rattle.answer.proofs.Fields.{fieldOf, leftmostOf, zero-said, kinds-field}
@@ -65,4 +65,4 @@ module _ (P : Permits) (line : List ℕ) where
 -- ---- the tried names, at the edition in force
 
 pub tried-kinds-today : map (toldOf today) triedLabels ≡ triedFields
-tried-kinds-today = lending (λ (P : Permits). map (toldOf P) triedLabels ≡ triedFields) {table = kanjiBits} refl tried-kinds
+tried-kinds-today = lending (λ (P : Permits). map (toldOf P) triedLabels ≡ triedFields) 4 {table = kanjiBits} refl tried-kinds

@@ -181,7 +181,7 @@ pub(crate) fn put_text(kanji: &[u32], id: &[u8], text: &[u32], out: &mut [u8]) -
 {
     let start = id.len() + 7;
     let end = start + 192;
-    let form = names::to_ascii_with(kanji, text, &mut out[start..end]);
+    let form = names::to_ascii_with(kanji, rules::IN_FORCE, text, &mut out[start..end]);
     let number = form.number as usize;
     if number != 0 {
         return put_refused(id, number, form.place, out);

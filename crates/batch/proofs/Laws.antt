@@ -15,7 +15,7 @@ use Rattle.lists.proofs.Pieces.{puts-once, puts-front}
 use Rattle.characters.specs.KanjiBits.{kanjiBits}
 use Rattle.rules.specs.Permits.{Permits}
 use Rattle.rules.specs.Editions.{today, todayWith}
-use Rattle.rules.proofs.Today.{lending}
+use Rattle.rules.proofs.Editions.{lending}
 use Rattle.answer.specs.Answers.{most}
 use Rattle.batch.specs.declared.stream.Fed.{Fed}
 use Rattle.batch.specs.declared.stream.Finished.{Finished}
@@ -125,4 +125,4 @@ pub batch-lent : {table : List ℕ} → table ≡ kanjiBits → {i w : List ℕ}
     → Calls (answerTo (todayWith table)) badAnswer i w l → Finishes (answerTo (todayWith table)) badAnswer l before after′ r → r .done ≡ true
     → w ++ take (r .wrote) after′ ≡ batch (answerTo today) i
 batch-lent t {i} {w} {l} {before} {after′} {r} k f =
-    batch-today (lending (λ (P : Permits). Calls (answerTo P) badAnswer i w l) t k) (lending (λ (P : Permits). Finishes (answerTo P) badAnswer l before after′ r) t f)
+    batch-today (lending (λ (P : Permits). Calls (answerTo P) badAnswer i w l) 4 t k) (lending (λ (P : Permits). Finishes (answerTo P) badAnswer l before after′ r) 4 t f)

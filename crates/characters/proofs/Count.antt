@@ -9,11 +9,11 @@ use Prim.Native.Nat.{ℕ, zero, suc, _+_, _≤_}
 use native.Mathlib.Omega.{arith}
 use lib.Dec.{eqb, ltb}
 use lib.ListN.{length}
-use borrow.Author.Tests.{eqb-true, eqb-false}
+use borrow.Author.Tests.{eqb-true, eqb-false, ne-eqb}
 use Rattle.lists.specs.Tests.{pick, within, anyOf, elem, above, rising}
 use Rattle.lists.proofs.Laws.{or-swap, any-append, inside, outside, lt-or-le}
 use Rattle.characters.specs.Kanji.{kanji}
-use Rattle.characters.specs.Characters.{kinds, signs, stretch, japaneseBy, japanese}
+use Rattle.characters.specs.Characters.{kinds, signs, signsIn, stretch, japaneseBy, japanese}
 
 -- n numbers from a on
 unfoldable pub run : ℕ → ℕ → List ℕ
@@ -98,8 +98,22 @@ module _ (c : ℕ) where
       any-append (eqb c) (run 0x3041 83) (run 0x30A1 86 ++ signs)
       ∙ rw (any-append (eqb c) (run 0x30A1 86) signs, in-run 0x3041 82, in-run 0x30A1 85)
 
-  pub members : elem c inOrder ≡ japanese c
-  unfolding inOrder japanese japaneseBy kinds stretch anyOf
+  pub members : elem c inOrder ≡ japanese 4 c
+  unfolding inOrder japanese japaneseBy kinds stretch signsIn anyOf
   members =
       in-all (run 0x3041 83 ++ (run 0x30A1 86 ++ signs)) kanji ∙ ap (λ (x : Bool). x || elem c kanji) others
       ∙ regroup (within 0x3041 0x3093 c) (within 0x30A1 0x30F6 c) (elem c signs) (elem c kanji)
+
+  -- in edition 1 3003 is one more (document 02, K12); in every other they are these
+  pub first-members : japanese 1 c ≡ eqb c 0x3003 || elem c inOrder
+  unfolding japanese japaneseBy kinds stretch signsIn elem anyOf
+  first-members =
+      rw members (more (within 0x3041 0x3093 c) (within 0x30A1 0x30F6 c) (elem c kanji) (eqb c 0x3003) (elem c signs))
+    where
+      more : (h k z d s : Bool) → h || (k || (z || ((d || s) || false))) ≡ d || (h || (k || (z || (s || false))))
+      more h k z true s = rw (or-true z, or-true k) (or-true h)
+      more h k z false s = refl
+
+  pub other-members : (edition : ℕ) → (edition ≡ 1 → ⊥) → japanese edition c ≡ elem c inOrder
+  unfolding japanese japaneseBy kinds stretch signsIn anyOf
+  other-members edition n = rw (members, ne-eqb edition 1 n)

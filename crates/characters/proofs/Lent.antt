@@ -54,6 +54,6 @@ same-kanji c = go (within 0x4E00 0x9FA0 c) refl (elem c kanji) refl
     go false p true q = clash (in-table (within 0x4E00 0x9FA0) c kanji kanji-within q) p
     go false p false q = rw p (sym q)
 
-pub lent : (c : ℕ) → kindWith kanjiBits c ≡ kind c
+pub lent : (edition c : ℕ) → kindWith kanjiBits edition c ≡ kind edition c
 unfolding kindBy kind kindWith kinds kindAmong stretch
-lent c = rw (same-kanji c)
+lent edition c = rw (same-kanji c)

@@ -1,4 +1,5 @@
--- Which code point is what: document 01, 'Characters'. A code point is any 32-bit number.
+-- Which code point is what: document 01, 'Characters'. A code point is any 32-bit number. Where editions of the rules
+-- differ (document 02, K12) an edition is told by its number; one that is none of 1 to 4 is taken for 4 here.
 use mathlib.Core.Bool.{Bool, true, false, _&&_, _||_}
 use mathlib.Core.List.{List, [], _∷_}
 use Prim.Native.Nat.{ℕ, _-_, _/_, _%_, _^_}
@@ -33,28 +34,35 @@ kindLetter None = 0x2D
 unfoldable pub kinds : List Kind
 kinds = Hiragana ∷ Katakana ∷ Kanji ∷ Sign ∷ []
 
+-- ten signs of row 1
 unfoldable pub signs : List ℕ
 signs = 0x30FB ∷ 0x30FD ∷ 0x30FE ∷ 0x309D ∷ 0x309E ∷ 0x4EDD ∷ 0x3005 ∷ 0x3006 ∷ 0x3007 ∷ 0x30FC ∷ []
 
--- the stretch of each kind: 3041 to 3093, 30A1 to 30F6, the kanji, ten signs of row 1; over which code points are kanji
-unfoldable pub stretch : (ℕ → Bool) → Kind → ℕ → Bool
-stretch isKanji Hiragana c = within 0x3041 0x3093 c
-stretch isKanji Katakana c = within 0x30A1 0x30F6 c
-stretch isKanji Kanji c = isKanji c
-stretch isKanji Sign c = elem c signs
-stretch isKanji None c = false
+-- those of an edition: in edition 1 3003 is one too, from edition 2 on it is not (document 02, K12)
+unfoldable pub signsIn : ℕ → List ℕ
+signsIn edition = pick (eqb edition 1) (0x3003 ∷ signs) signs
+
+-- the stretch of each kind: 3041 to 3093, 30A1 to 30F6, the kanji, the signs of row 1; over which code points are kanji,
+-- and the edition
+unfoldable pub stretch : (ℕ → Bool) → ℕ → Kind → ℕ → Bool
+stretch isKanji edition Hiragana c = within 0x3041 0x3093 c
+stretch isKanji edition Katakana c = within 0x30A1 0x30F6 c
+stretch isKanji edition Kanji c = isKanji c
+stretch isKanji edition Sign c = elem c (signsIn edition)
+stretch isKanji edition None c = false
 
 -- the first of these kinds whose stretch holds c, and none where there is no such kind
-unfoldable pub kindAmong : (ℕ → Bool) → List Kind → ℕ → Kind
-kindAmong isKanji [] c = None
-kindAmong isKanji (k ∷ ks) c = pick (stretch isKanji k c) k (kindAmong isKanji ks c)
+unfoldable pub kindAmong : (ℕ → Bool) → ℕ → List Kind → ℕ → Kind
+kindAmong isKanji edition [] c = None
+kindAmong isKanji edition (k ∷ ks) c = pick (stretch isKanji edition k c) k (kindAmong isKanji edition ks c)
 
-unfoldable pub kindBy : (ℕ → Bool) → ℕ → Kind
-kindBy isKanji c = kindAmong isKanji kinds c
+unfoldable pub kindBy : (ℕ → Bool) → ℕ → ℕ → Kind
+kindBy isKanji edition c = kindAmong isKanji edition kinds c
 
--- the kind of a code point; no stretch holds what another holds (proofs/OneKind), so the order is of no matter
-unfoldable pub kind : ℕ → Kind
-kind c = kindBy (λ x. elem x kanji) c
+-- the kind of a code point in an edition; no stretch holds what another holds (proofs/OneKind), so the order is of no
+-- matter
+unfoldable pub kind : ℕ → ℕ → Kind
+kind edition c = kindBy (λ x. elem x kanji) edition c
 
 -- any but none
 unfoldable pub anyKind : Kind → Bool
@@ -64,13 +72,13 @@ anyKind Kanji = true
 anyKind Sign = true
 anyKind None = false
 
--- the Japanese characters, as document 01 lists them: those of the four stretches. They are those of any kind but none
--- (proofs/OneKind)
-unfoldable pub japaneseBy : (ℕ → Bool) → ℕ → Bool
-japaneseBy isKanji c = anyOf (λ (k : Kind). stretch isKanji k c) kinds
+-- the Japanese characters of an edition, as document 01 lists those of edition 4, today's: the characters of the four
+-- stretches. They are those of any kind but none (proofs/OneKind)
+unfoldable pub japaneseBy : (ℕ → Bool) → ℕ → ℕ → Bool
+japaneseBy isKanji edition c = anyOf (λ (k : Kind). stretch isKanji edition k c) kinds
 
-unfoldable pub japanese : ℕ → Bool
-japanese c = japaneseBy (λ x. elem x kanji) c
+unfoldable pub japanese : ℕ → ℕ → Bool
+japanese edition c = japaneseBy (λ x. elem x kanji) edition c
 
 -- bit k of a word, counted from the lowest, is set
 abbrev pub bitSet : ℕ → ℕ → Bool
@@ -82,5 +90,5 @@ unfoldable pub kanjiWith : List ℕ → ℕ → Bool
 kanjiWith table c = within 0x4E00 0x9FA0 c && bitSet (getD table ((c - 0x4E00) / 32) 0) ((c - 0x4E00) % 32)
 
 -- the kind of a code point by such a table; by the bits of the kanji themselves it is `kind` (proofs/Lent)
-unfoldable pub kindWith : List ℕ → ℕ → Kind
-kindWith table c = kindBy (kanjiWith table) c
+unfoldable pub kindWith : List ℕ → ℕ → ℕ → Kind
+kindWith table edition c = kindBy (kanjiWith table) edition c

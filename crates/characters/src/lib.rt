@@ -1,5 +1,5 @@
 // Which code point is what: Japanese and of which kind, what replaces it, and what a base and a mark become.
-// Each call takes any 32-bit number and any lent table, and says all of its result. Its meaning is defined in specs/:
+// Each call takes any 32-bit number, any edition and any lent table, and says all of its result. Its meaning is defined in specs/:
 // Characters, Replace, Compose. A call `.._with` is lent the table of kanji, so that a program names that table once: `kanji_bits` gives it, and
 // says which it is.
 mod kanji;
@@ -10,7 +10,7 @@ ghost use Prim.Native.Nat.{_+_, _<_};
 ghost use lib.Dec.{ltb};
 ghost use lib.ListN.{getD};
 ghost use Rattle.lists.specs.Tests.{pick, within, elem};
-ghost use Rattle.characters.specs.Characters.{alnum, asciiSet, signs, kind, anyKind, bitSet, kanjiWith, kindWith};
+ghost use Rattle.characters.specs.Characters.{alnum, asciiSet, signsIn, kind, anyKind, bitSet, kanjiWith, kindWith};
 ghost use Rattle.characters.specs.KanjiBits.{kanjiBits};
 ghost use Rattle.characters.specs.Replace.{halfKana, classOf, replace};
 ghost use Rattle.characters.specs.Compose.{composed};
@@ -57,10 +57,17 @@ const SIGNS: [u32; 10] = [
     0x30FC,
 ];
 
-fn is_sign(c: u32) -> bool
-    ensures { λ r. ⌜ r ≡ elem c signs ⌝ }
+// A sign of row 1? 3003 is one in edition 1 alone.
+fn is_sign(edition: u32, c: u32) -> bool
+    ensures { λ r. ⌜ r ≡ elem c (signsIn edition) ⌝ }
 {
-    lists::holds(&SIGNS, c)
+    if lists::holds(&SIGNS, c) {
+        return true;
+    }
+    if c == 0x3003 {
+        return edition == 1;
+    }
+    false
 }
 
 // The table of kanji to lend: a bit for each code point from 4E00 to 9FA0.
@@ -100,9 +107,9 @@ pub enum Kind {
     None,
 }
 
-// The kind of a code point, by a lent table of kanji. The kanji come first, being the most, and the signs last.
-pub fn kind_with(kanji: &[u32], c: u32) -> Kind
-    ensures { λ r. ⌜ r ≡ kindWith (now (kanji .entry)) c ⌝ }
+// The kind of a code point in an edition, by a lent table of kanji. The kanji come first, being the most, and the signs last.
+pub fn kind_with(kanji: &[u32], edition: u32, c: u32) -> Kind
+    ensures { λ r. ⌜ r ≡ kindWith (now (kanji .entry)) edition c ⌝ }
 {
     if is_kanji(kanji, c) {
         return Kind::Kanji;
@@ -113,17 +120,17 @@ pub fn kind_with(kanji: &[u32], c: u32) -> Kind
     if between(0x30A1, 0x30F6, c) {
         return Kind::Katakana;
     }
-    if is_sign(c) {
+    if is_sign(edition, c) {
         return Kind::Sign;
     }
     Kind::None
 }
 
-// The same by the kanji of this edition, for a single code point; who asks of many lends the table.
-pub fn kind_of(c: u32) -> Kind
-    ensures { λ r. ⌜ r ≡ kind c ⌝ }
+// The same by the kanji themselves, for a single code point; who asks of many lends the table.
+pub fn kind_of(edition: u32, c: u32) -> Kind
+    ensures { λ r. ⌜ r ≡ kind edition c ⌝ }
 {
-    kind_with(&KANJI, c)
+    kind_with(&KANJI, edition, c)
 }
 
 // Japanese, which is any kind but none?

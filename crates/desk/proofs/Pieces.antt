@@ -12,7 +12,7 @@ use Rattle.lists.proofs.Pieces.{puts-inside, puts-count}
 use Rattle.characters.specs.KanjiBits.{kanjiBits}
 use Rattle.rules.specs.Permits.{Permits}
 use Rattle.rules.specs.Editions.{today, todayWith}
-use Rattle.rules.proofs.Today.{lending}
+use Rattle.rules.proofs.Editions.{lending}
 use Rattle.batch.specs.declared.stream.Fed.{Fed}
 use Rattle.batch.specs.declared.stream.Finished.{Finished}
 use Rattle.batch.specs.declared.stream.Line.{Line}
@@ -52,7 +52,7 @@ begins piece out l h = record { inside = omega arith; room = h; long = refl; sam
 module _ {table piece out₀ out out′ : List ℕ} {l₀ l : Line} {at count : ℕ} {r : Fed} (t : table ≡ kanjiBits) (k : Kept piece out₀ out l₀ l at count)
     (h : at < length piece) (f : Feeds (answerTo (todayWith table)) badAnswer l (take (length piece - at) (drop at piece)) out out′ r) where
   left : Feeds (answerTo today) badAnswer l (drop at piece) out out′ r
-  left = lending (λ (P : Permits). Feeds (answerTo P) badAnswer l (drop at piece) out out′ r) t (rw (tail-part piece at) at f)
+  left = lending (λ (P : Permits). Feeds (answerTo P) badAnswer l (drop at piece) out out′ r) 4 t (rw (tail-part piece at) at f)
 
   pub wrote-fits : r .wrote ≤ length out′
   wrote-fits = puts-inside (left .text)
@@ -101,7 +101,7 @@ ends {piece} {l = l} {at = at} k h =
 pub at-end : {table before after′ : List ℕ} {l : Line} {r : Finished} → table ≡ kanjiBits → most ≤ length before
     → Finishes (answerTo (todayWith table)) badAnswer l before after′ r → r .wrote ≡ length (ended (answerTo today) badAnswer l)
 at-end {before = before} {after′} {l} {r} t h f =
-    let g = lending (λ (P : Permits). Finishes (answerTo P) badAnswer l before after′ r) t f in
+    let g = lending (λ (P : Permits). Finishes (answerTo P) badAnswer l before after′ r) 4 t f in
     puts-count (g .text) ∙ rw (le-leb most (length before) h)
 
 -- what is said of the line that was told is said of the one handed back

@@ -1,18 +1,21 @@
--- The middle label: the table of characters, cut where each label starts, is the list of the 94, by computation; a search over
+-- The middle label: the table of characters, cut where each label of an edition starts, is the list of its labels, by computation; a search over
 -- the parts for one of which a test holds is a scan.
 -- Assumes nothing.
 use mathlib.Core.Path.{_≡_, refl, sym, ap, _∙_}
 use mathlib.Core.Bool.{Bool, true, false, _&&_, _||_}
 use mathlib.Core.List.{List, [], _∷_}
+use mathlib.Core.Logic.{⊎-elim}
 use Prim.Native.Nat.{ℕ, suc, _+_, _-_, _≤_, _<_}
 use native.Mathlib.Omega.{arith}
-use lib.Dec.{leb}
+use lib.Dec.{eqb, leb}
 use lib.ListN.{length, take, drop, getD, length-drop}
 use lib.Seq.{drop-cons}
-use borrow.Author.Tests.{leb-true}
-use Rattle.lists.specs.Tests.{anyOf}
-use Rattle.lists.proofs.Laws.{both}
-use Rattle.endings.specs.Parts.{parts, startsRise}
+use borrow.Author.Tests.{leb-true, ne-eqb}
+use Rattle.lists.specs.Tests.{pick, within, anyOf}
+use Rattle.lists.proofs.Laws.{both, inside, outside, lt-or-le}
+use Rattle.rules.specs.Editions.{hasPrefectures, middlesIn}
+use Rattle.rules.specs.Prefectures.{latinPrefectures, prefectures}
+use Rattle.endings.specs.Parts.{parts, startsRise, startsIn}
 
 -- the search from the i-th part on decides, and the starts from there on are in order
 pub record Left (f : List ℕ → Bool) (table starts : List ℕ) (i : ℕ) : Type 0 where
@@ -73,3 +76,32 @@ part-end f table starts i l h = sym (l .told ∙ go (drop (i - 1) starts) (omega
     go [] h = refl
     go (a ∷ []) h = refl
     go (a ∷ b ∷ ss) h = absurd (omega arith)
+
+-- ---- the starts of an edition
+
+module _ (edition : ℕ) where
+  -- there are as many as its labels ask for: none, 48 or 95
+  pub by-starts : {G : Type 0} {n : ℕ} → n ≡ startsIn edition → (n ≡ 0 → middlesIn edition ≡ [] → G) → (n ≡ 48 → middlesIn edition ≡ latinPrefectures → G)
+      → (n ≡ 95 → middlesIn edition ≡ prefectures → G) → G
+  unfolding startsIn middlesIn
+  by-starts {G} {n} e none latin all = go (hasPrefectures edition) (eqb edition 3) e none latin all
+    where
+      go : (a b : Bool) → n ≡ pick a (pick b 48 95) 0 → (n ≡ 0 → pick a (pick b latinPrefectures prefectures) [] ≡ [] → G)
+          → (n ≡ 48 → pick a (pick b latinPrefectures prefectures) [] ≡ latinPrefectures → G)
+          → (n ≡ 95 → pick a (pick b latinPrefectures prefectures) [] ≡ prefectures → G) → G
+      go true true q f g h = g q refl
+      go true false q f g h = h q refl
+      go false b q f g h = f q refl
+
+  -- 1 and 2, 3, any other number
+  pub starts-none : (1 ≤ edition) → (edition ≤ 2) → 0 ≡ startsIn edition
+  unfolding startsIn
+  starts-none h k = rw (inside 1 2 edition h k)
+
+  pub starts-latin : edition ≡ 3 → 48 ≡ startsIn edition
+  unfolding startsIn within
+  starts-latin e = rw e
+
+  pub starts-all : (edition ≡ 1 → ⊥) → (edition ≡ 2 → ⊥) → (edition ≡ 3 → ⊥) → 95 ≡ startsIn edition
+  unfolding startsIn
+  starts-all f g h = rw (outside 1 2 edition (λ p q. ⊎-elim (λ k. f (omega arith)) (λ k. g (omega arith)) (lt-or-le edition 2)), ne-eqb edition 3 h)

@@ -3,9 +3,10 @@
 use mathlib.Core.Bool.{Bool, true, _&&_}
 use mathlib.Core.List.{List, [], _∷_}
 use Prim.Native.Nat.{ℕ, _-_}
-use lib.Dec.{leb}
+use lib.Dec.{eqb, leb}
 use lib.ListN.{take, drop}
 use Rattle.lists.specs.Tests.{pick, same}
+use Rattle.rules.specs.Editions.{hasPrefectures}
 use Rattle.rules.specs.Hopeful.{begins}
 
 -- a label is the part or, where it need not be exact, its beginning
@@ -23,3 +24,7 @@ unfoldable pub startsRise : ℕ → List ℕ → Bool
 startsRise n [] = true
 startsRise n (a ∷ []) = leb a n
 startsRise n (a ∷ b ∷ ss) = leb a b && startsRise n (b ∷ ss)
+
+-- how many of the starts are those of an edition's labels, with the end of the last
+unfoldable pub startsIn : ℕ → ℕ
+startsIn edition = pick (hasPrefectures edition) (pick (eqb edition 3) 48 95) 0

@@ -5,7 +5,7 @@ use mathlib.Core.List.{List, [], _∷_, _++_}
 use Prim.Native.Nat.{ℕ}
 use Rattle.lists.specs.Rows.{first}
 use Rattle.lists.specs.Tests.{within, allOf, anyOf, indexOf, elem, same}
-use Rattle.characters.specs.Characters.{hyphen, asciiSet, kindLetter, kinds, signs, stretch, kindAmong, kindBy, kind}
+use Rattle.characters.specs.Characters.{hyphen, asciiSet, kindLetter, kinds, signs, signsIn, stretch, kindAmong, kindBy, kind}
 use Rattle.characters.specs.Characters.{anyKind}
 use Rattle.characters.specs.Compose.{voiced, repeats, halfVoiced, eitherKana, composed}
 use Rattle.characters.specs.Kanji.{kanji}
@@ -15,11 +15,11 @@ use Rattle.punycode.specs.Calls.{coderNumber}
 use Rattle.punycode.specs.Punycode.{digit, adaptLoop, damped, adapt, threshold, varint, add, emit}
 use Rattle.punycode.specs.Punycode.{point, points, nearer, least, passes, below, delimiter, initial}
 use Rattle.punycode.specs.Punycode.{extended, encode, ace, ldh, wide, allowed, encodable}
-use Rattle.rules.specs.Editions.{today}
+use Rattle.rules.specs.Editions.{middlesIn, editionOf, today}
 use Rattle.rules.specs.Labels.{period, intoFirst, labels, join}
 use Rattle.rules.specs.Permits.{jaChar, labelChar, middle, isEmpty}
 use Rattle.rules.specs.Kinds.{sameKind, found, kindsIn}
-use Rattle.rules.specs.Prefectures.{prefectures}
+use Rattle.rules.specs.Prefectures.{latinPrefectures, japanesePrefectures, prefectures}
 use Rattle.rules.specs.Rules.{unfit, middleDot, ordinary, isJapanese, beginsWithHyphen}
 use Rattle.rules.specs.Rules.{endsWithHyphen, hyphenEdge, short, long, hyphenPair, pretends, bareDot}
 use Rattle.rules.specs.Rules.{labelRows, jp, nameRows, frontRows, textRows, verdict}
@@ -49,12 +49,12 @@ output =
 
 pub printed : batch (answerTo today) input ≡ output
 unfolding input output first within allOf anyOf indexOf elem same Rattle.characters.specs.Characters.alnum hyphen
-    asciiSet kindLetter kinds signs stretch kindAmong kindBy kind anyKind voiced repeats halfVoiced eitherKana
+    asciiSet kindLetter kinds signs signsIn stretch kindAmong kindBy kind anyKind voiced repeats halfVoiced eitherKana
     composed kanji ranges rangeIn Rattle.characters.specs.Replace.classOf halfKana isHalf replaceIn replace
     replacedFrom compose normalPlaced normalForm places coderNumber digit adaptLoop damped adapt threshold varint add
     emit point points nearer least passes below delimiter initial extended encode ace
-    Rattle.punycode.specs.Punycode.alnum ldh wide allowed encodable middle today period intoFirst labels join jaChar
-    labelChar isEmpty prefectures unfit middleDot ordinary isJapanese beginsWithHyphen endsWithHyphen hyphenEdge short
+    Rattle.punycode.specs.Punycode.alnum ldh wide allowed encodable middle middlesIn editionOf period intoFirst labels join jaChar
+    labelChar isEmpty latinPrefectures japanesePrefectures prefectures unfit middleDot ordinary isJapanese beginsWithHyphen endsWithHyphen hyphenEdge short
     long hyphenPair pretends bareDot labelRows jp nameRows frontRows textRows Rattle.rules.specs.Rules.classOf verdict
     asciiLabel asciiForm uncoded asciiRows tab idOf nameOf oneTab idByte goodId badLine decimalBy decimal letter
     sameKind found kindsIn kindsSaid kindLetters kindField answerLine goodAnswer answerTo lf linesFrom lines answers

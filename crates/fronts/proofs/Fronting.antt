@@ -9,12 +9,12 @@ use Prim.Native.Nat.{ℕ, zero, suc, _-_, _≤_, _<_}
 use native.Mathlib.Omega.{arith}
 use lib.Dec.{eqb, ltb}
 use lib.ListN.{length, take, drop, getD, length-append}
-use borrow.Author.Tests.{ne-eqb, le-ltb, ltb-false}
+use borrow.Author.Tests.{eqb-true, eqb-false, ne-eqb, le-ltb, ltb-false}
 use Rattle.lists.specs.Tests.{allOf, anyOf, indexOf}
 use Rattle.lists.specs.Front.{written}
 use Rattle.lists.specs.Rows.{Row, row, accepted, first, Clear}
 use Rattle.lists.specs.declared.Answer.{Answer}
-use Rattle.lists.proofs.Laws.{lt-or-le}
+use Rattle.lists.proofs.Laws.{by-test, lt-or-le}
 use Rattle.lists.proofs.Scan.{found, not-found}
 use Rattle.lists.proofs.Tables.{clear, clear-before, refused-before, hit, passed-over, refusing, accepted-clear, given-all, given-none}
 use Rattle.normal.specs.Normal.{normalForm, places}
@@ -173,6 +173,15 @@ module _ (P : Permits) {text before after : List ℕ} {r : Fronted} (F : Fronts 
 
     pub told-fit : r .unfit ≡ false → Told P text before after (record { number = 0; place = 0 }) (r .length)
     told-fit u = told-as (clear unfits (sym unfit-is ∙ u, tt))
+
+  -- whatever is said, the buffer holds what is shown
+  pub told-some : (a : Answer) × Told P text before after a (r .length)
+  told-some =
+      by-test (λ b. eqb (r .number) 0 ≡ b → (a : Answer) × Told P text before after a (r .length)) (eqb (r .number) 0)
+      (λ p z.
+      let n = eqb-true (r .number) 0 z in
+      by-test (λ b. r .unfit ≡ b → (a : Answer) × Told P text before after a (r .length)) (r .unfit) (λ q u. (_, told-unfit n u)) (λ q u. (_, told-fit n u)) refl)
+      (λ p z. (_, told-refused (eqb-false (r .number) 0 z))) refl
 
 -- where none of 2 to 4 applies, the buffer holds the normal form
 module _ (P : Permits) {text before after : List ℕ} {n : ℕ} (T : Told P text before after accepted n) where

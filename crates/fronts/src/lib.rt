@@ -2,7 +2,7 @@
 // which brings 4. The call takes any text and any lent buffer and says all of its result; a refusal writes nothing. Its meaning is defined in
 // specs/Fronts, over the rows 2 to 4 of `rules` (specs/Rules: frontRows).
 use labels::first_unfit_with;
-ghost use Rattle.rules.specs.Editions.{todayWith};
+ghost use Rattle.rules.specs.Editions.{editionWith};
 ghost use Rattle.fronts.specs.Fronts.{Fronts};
 
 const ACCEPTED: u8 = 0;
@@ -18,8 +18,8 @@ pub struct Fronted {
 }
 
 // The normal form is written where there is one. A character that is unfit does not hinder that: who shows the form shows it with 4 too.
-pub fn front_with(kanji: &[u32], text: &[u32], form: &mut [u32]) -> Fronted
-    ensures { λ r. ⌜ Fronts (todayWith (now (kanji .entry))) (now (text .entry)) (now (form .entry)) (now (form .exit)) r ⌝ }
+pub fn front_with(kanji: &[u32], edition: u32, text: &[u32], form: &mut [u32]) -> Fronted
+    ensures { λ r. ⌜ Fronts (editionWith (now (kanji .entry)) edition) (now (text .entry)) (now (form .entry)) (now (form .exit)) r ⌝ }
 {
     let normal = normal::normal_form(text, form);
     let length = normal.length;
@@ -32,7 +32,7 @@ pub fn front_with(kanji: &[u32], text: &[u32], form: &mut [u32]) -> Fronted
             at: 0,
         };
     }
-    let k = first_unfit_with(kanji, &form[0..length]);
+    let k = first_unfit_with(kanji, edition, &form[0..length]);
     if k < length {
         return Fronted {
             number: ACCEPTED,

@@ -24,7 +24,7 @@ use Rattle.rules.proofs.Cuts.{labels-fit}
 use Rattle.rules.proofs.ByName.{Kept, each-numbers, clear-host}
 use Rattle.rules.proofs.Derived.{left-size}
 use Rattle.rules.proofs.Hosts as Hosts
-use Rattle.rules.proofs.Today.{today-laws}
+use Rattle.rules.proofs.Editions.{today-laws}
 use Rattle.ascii.specs.Ascii.{uncoded}
 use Rattle.ascii.proofs.Coded.{label-fine}
 use Rattle.hosts.specs.Hosts.{codedRows, rows, hostRules, callRows, HostForms}

@@ -18,7 +18,7 @@ use Rattle.rules.specs.Permits.{Permits, Laws}
 use Rattle.rules.specs.Hosts.{hostTextRows}
 use Rattle.rules.specs.Editions.{today}
 use Rattle.rules.proofs.Minus.{withHyphens, minus-length, minus-form, minus-front}
-use Rattle.rules.proofs.Today.{today-laws}
+use Rattle.rules.proofs.Editions.{today-laws}
 use Rattle.fronts.specs.Fronts.{shown}
 use Rattle.ascii.specs.Ascii.{asciiForm}
 use Rattle.hosts.specs.Hosts.{rows, hostRules, HostGranted, hostJudged, callRows, hostFormed, HostForms}

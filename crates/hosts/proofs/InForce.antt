@@ -7,7 +7,7 @@ use Prim.Native.Nat.{ℕ}
 use Rattle.lists.specs.Rows.{accepted}
 use Rattle.rules.specs.Permits.{Permits}
 use Rattle.rules.specs.Editions.{today}
-use Rattle.rules.proofs.Today.{today-laws, lending}
+use Rattle.rules.proofs.Editions.{today-laws, lending}
 use Rattle.hosts.specs.Hosts.{hostRules, HostGranted}
 use Rattle.hosts.specs.Tried.{said, meant, table, tried}
 use Rattle.hosts.proofs.Exactly.{accepted-exactly}
@@ -18,4 +18,4 @@ pub accepted-today : (text : List ℕ) → (hostRules today text ≡ accepted) �
 accepted-today = accepted-exactly today today-laws
 
 pub hosts-tried-today : map (said today) table ≡ map meant table
-hosts-tried-today = lending (λ (P : Permits). map (said P) table ≡ map meant table) refl tried
+hosts-tried-today = lending (λ (P : Permits). map (said P) table ≡ map meant table) 4 refl tried

@@ -9,7 +9,7 @@ use Rattle.lists.specs.Tests.{within, allOf, anyOf, indexOf, elem}
 use Rattle.lists.specs.Rows.{Row, accepted, first, without}
 use Rattle.lists.specs.declared.Answer.{Answer}
 use Rattle.characters.specs.KanjiBits.{kanjiBits}
-use Rattle.characters.specs.Characters.{alnum, hyphen, asciiSet, kinds, signs, stretch, kindAmong, kindBy, anyKind}
+use Rattle.characters.specs.Characters.{alnum, hyphen, asciiSet, kinds, signs, signsIn, stretch, kindAmong, kindBy, anyKind}
 use Rattle.characters.specs.Characters.{kanjiWith, kindWith}
 use Rattle.characters.specs.Replace.{ranges, rangeIn, halfKana, isHalf, replaceIn, replace}
 use Rattle.characters.specs.Compose.{voiced, repeats, halfVoiced, eitherKana, composed}
@@ -24,7 +24,7 @@ use Rattle.rules.specs.Permits.{Permits, jaChar, labelChar, isEmpty}
 use Rattle.rules.specs.Rules.{unfit, middleDot, ordinary, isJapanese, beginsWithHyphen, endsWithHyphen, hyphenEdge}
 use Rattle.rules.specs.Rules.{short, long, hyphenPair, pretends, bareDot, labelRows, frontRows}
 use Rattle.rules.specs.Hosts.{eachRows, hostRows, hostTextRows}
-use Rattle.rules.specs.Editions.{todayWith}
+use Rattle.rules.specs.Editions.{middlesIn, editionWith, todayWith}
 use Rattle.ascii.specs.Ascii.{asciiLabel, asciiForm, uncoded}
 use Rattle.hosts.specs.Hosts.{codedRows, rows, hostRules, callRows}
 
@@ -165,11 +165,11 @@ table =
     []
 
 pub tried : map (said (todayWith kanjiBits)) table ≡ map meant table
-unfolding within allOf anyOf indexOf elem first without alnum hyphen asciiSet kinds signs stretch kindAmong kindBy
+unfolding within allOf anyOf indexOf elem first without alnum hyphen asciiSet kinds signs signsIn stretch kindAmong kindBy
     anyKind kanjiWith kindWith ranges rangeIn halfKana isHalf replaceIn replace voiced repeats halfVoiced eitherKana
     composed replacedFrom compose normalPlaced normalForm places digit adaptLoop damped adapt threshold varint add
     emit point points nearer least passes below delimiter initial extended encode ace Puny.alnum ldh wide allowed
     encodable coderNumber period intoFirst labels join jaChar labelChar isEmpty unfit middleDot ordinary isJapanese
     beginsWithHyphen endsWithHyphen hyphenEdge short long hyphenPair pretends bareDot labelRows frontRows eachRows
-    hostRows hostTextRows todayWith asciiLabel asciiForm uncoded codedRows rows hostRules callRows inTurn halfGa
+    hostRows hostTextRows middlesIn editionWith asciiLabel asciiForm uncoded codedRows rows hostRules callRows inTurn halfGa
 tried = refl

@@ -4,6 +4,7 @@ use crate::HostJudged;
 use crate::UNFIT;
 use crate::labelled::host_rules;
 use fronts::front_with;
+use rules::IN_FORCE;
 ghost use mathlib.Core.Path.{_≡_};
 ghost use Prim.Native.Nat.{_≤_};
 ghost use lib.ListN.{length};
@@ -23,7 +24,7 @@ pub(crate) fn judge_into(kanji: &[u32], text: &[u32], form: &mut [u32]) -> Ruled
     requires { ⌜ 256 ≤ length (now form) ⌝ }
     ensures { λ r. ⌜ Judges (todayWith (now (kanji .entry))) (now (text .entry)) (now (form .entry)) (now (form .exit)) r ⌝ }
 {
-    let front = front_with(kanji, text, form);
+    let front = front_with(kanji, IN_FORCE, text, form);
     let length = front.length;
     if front.number != ACCEPTED {
         return Ruled {

@@ -11,6 +11,7 @@ use ascii::label_form;
 use labels::label_end;
 use labels::label_rule_with;
 use lists::Answer;
+use rules::IN_FORCE;
 ghost use mathlib.Core.Path.{_≡_};
 ghost use mathlib.Core.Bool.{true, false};
 ghost use mathlib.Core.List.{[], _∷_, _++_};
@@ -74,7 +75,7 @@ fn each_rule(kanji: &[u32], form: &[u32]) -> Answer
     let mut i = 0;
     loop {
         let end = label_end(form, from);
-        let rule = label_rule_with(kanji, &form[from..end], LEAST, EVERY_PAIR, i);
+        let rule = label_rule_with(kanji, IN_FORCE, &form[from..end], LEAST, EVERY_PAIR, i);
         if rule.number != ACCEPTED {
             return rule;
         }

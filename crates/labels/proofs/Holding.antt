@@ -19,7 +19,7 @@ use Rattle.characters.proofs.Bounds.{with-below}
 use Rattle.rules.specs.Permits.{Permits, jaChar, labelChar}
 use Rattle.rules.specs.Kinds.{sameKind, found, kindsIn, noKinds, anyFound}
 use Rattle.rules.specs.Rules.{isJapanese}
-use Rattle.rules.specs.Editions.{todayWith}
+use Rattle.rules.specs.Editions.{editionWith}
 use Rattle.rules.specs.declared.Kinds.{Kinds}
 use Rattle.labels.specs.Held.{unfitHeld, heldIn}
 use Rattle.labels.specs.declared.Held.{Held}
@@ -67,9 +67,9 @@ none-kind None e = refl
 
 -- ---- a label, read up to i
 
-module _ (table label : List ℕ) where
+module _ (table : List ℕ) (edition : ℕ) (label : List ℕ) where
   abbrev Q : Permits
-  Q = todayWith table
+  Q = editionWith table edition
 
   pub record HeldSoFar (ks : Kinds) (i : ℕ) : Type 0 where
     pub inside : i ≤ length label
@@ -101,23 +101,23 @@ module _ (table label : List ℕ) where
         pub ascii-on : a ≡ true → HeldSoFar ks (i + 1)
         unfolding together only sameKind kindLetter
         ascii-on t =
-            let k : Q .kind c ≡ None = unfold todayWith in none-kind (kindWith table c) (with-below table c (omega arith)) in
-            rw k at (next (sym (in-ascii table c l e) ∙ t))
+            let k : Q .kind c ≡ None = unfold editionWith in none-kind (kindWith table edition c) (with-below table edition c (omega arith)) in
+            rw k at (next (sym (in-ascii table edition c l e) ∙ t))
 
         pub ascii-not : a ≡ false → unfitHeld ≡ heldIn Q label
         unfolding heldIn
-        ascii-not t = rw (← all-here (labelChar Q) label i h (s .fits) (in-ascii table c l e) t)
+        ascii-not t = rw (← all-here (labelChar Q) label i h (s .fits) (in-ascii table edition c l e) t)
 
       -- from 80 on
-      module _ (l : 0x80 ≤ c) {k : Kind} (e : k ≡ kindWith table c) where
+      module _ (l : 0x80 ≤ c) {k : Kind} (e : k ≡ kindWith table edition c) where
         pub kind-on : anyKind k ≡ true → HeldSoFar (together (only k) ks) (i + 1)
         kind-on t =
-            let d : Q .kind c ≡ k = unfold todayWith in sym e in
-            rw d at (next (sym (in-japanese table c l e refl) ∙ t))
+            let d : Q .kind c ≡ k = unfold editionWith in sym e in
+            rw d at (next (sym (in-japanese table edition c l e refl) ∙ t))
 
         pub kind-not : anyKind k ≡ false → unfitHeld ≡ heldIn Q label
         unfolding heldIn
-        kind-not t = rw (← all-here (labelChar Q) label i h (s .fits) (in-japanese table c l e refl) t)
+        kind-not t = rw (← all-here (labelChar Q) label i h (s .fits) (in-japanese table edition c l e refl) t)
 
     pub all-seen : length label ≤ i → _≡_ {A = Held} (record { fit = true; kinds = ks }) (heldIn Q label)
     unfolding heldIn kindsIn found anyOf

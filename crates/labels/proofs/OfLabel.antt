@@ -16,36 +16,37 @@ use Rattle.lists.proofs.Tables.{clear, hit, passed-over}
 use Rattle.characters.specs.Characters.{asciiSet, hyphen, kinds, signs, stretch, kindAmong, kindBy, anyKind, kanjiWith, kindWith}
 use Rattle.characters.specs.declared.Kind.{Kind}
 use Rattle.characters.proofs.Bounds.{with-below}
+use Rattle.characters.proofs.OneKind.{sign-is}
 use Rattle.rules.specs.Labels.{period}
 use Rattle.rules.specs.Permits.{Permits, jaChar, labelChar}
 use Rattle.rules.specs.Rules.{unfit, middleDot, ordinary, isJapanese, beginsWithHyphen, endsWithHyphen, hyphenEdge, short, long, hyphenPair, Asks, pretendsAs, pretends, bareDot, labelRows}
-use Rattle.rules.specs.Editions.{todayWith}
+use Rattle.rules.specs.Editions.{editionWith}
 use Rattle.rules.proofs.Sound.{ascii-range}
 use Rattle.rules.proofs.Steps.{edge-at}
 use Rattle.labels.specs.Known.{knownRows}
 
 -- ---- one character
 
-module _ (table : List ℕ) (c : ℕ) where
-  pub ja-low : c < 0x3003 → false ≡ jaChar (todayWith table) c
-  unfolding jaChar todayWith
-  ja-low h = sym (with-below table c h)
+module _ (table : List ℕ) (edition c : ℕ) where
+  pub ja-low : c < 0x3003 → false ≡ jaChar (editionWith table edition) c
+  unfolding jaChar editionWith
+  ja-low h = sym (with-below table edition c h)
 
-  pub ja-high : {k : Kind} {j : Bool} → k ≡ kindWith table c → j ≡ anyKind k → j ≡ jaChar (todayWith table) c
-  unfolding jaChar todayWith
+  pub ja-high : {k : Kind} {j : Bool} → k ≡ kindWith table edition c → j ≡ anyKind k → j ≡ jaChar (editionWith table edition) c
+  unfolding jaChar editionWith
   ja-high e q = q ∙ ap anyKind e
 
-  pub in-ascii : {a : Bool} → c < 0x80 → a ≡ asciiSet c → a ≡ labelChar (todayWith table) c
+  pub in-ascii : {a : Bool} → c < 0x80 → a ≡ asciiSet c → a ≡ labelChar (editionWith table edition) c
   unfolding labelChar
   in-ascii h e = e ∙ rw (← ja-low (omega arith))
 
-  pub in-japanese : {k : Kind} {j : Bool} → 0x80 ≤ c → k ≡ kindWith table c → j ≡ anyKind k → j ≡ labelChar (todayWith table) c
+  pub in-japanese : {k : Kind} {j : Bool} → 0x80 ≤ c → k ≡ kindWith table edition c → j ≡ anyKind k → j ≡ labelChar (editionWith table edition) c
   unfolding labelChar
   in-japanese h e q = ja-high e q ∙ go (asciiSet c) refl
     where
-      go : (a : Bool) → asciiSet c ≡ a → jaChar (todayWith table) c ≡ jaChar (todayWith table) c || asciiSet c
+      go : (a : Bool) → asciiSet c ≡ a → jaChar (editionWith table edition) c ≡ jaChar (editionWith table edition) c || asciiSet c
       go true p = absurd (let r = ascii-range c p in omega arith)
-      go false p = rw p (sym (or-false (jaChar (todayWith table) c)))
+      go false p = rw p (sym (or-false (jaChar (editionWith table edition) c)))
 
 module _ (P : Permits) (c : ℕ) where
   pub fit-period : c ≡ 0x2E → false ≡ unfit P c
@@ -157,10 +158,10 @@ ascii-refused j f = rw f
 
 -- ---- 7 to 10 and 17
 
--- the middle dot is Japanese, whatever table is lent
-pub lent-dot : (table : List ℕ) → jaChar (todayWith table) 0x30FB ≡ true
-unfolding jaChar todayWith kindWith kinds stretch kindAmong kindBy anyKind kanjiWith elem anyOf signs within
-lent-dot table = refl
+-- the middle dot is Japanese, whatever table is lent, in every edition
+pub lent-dot : (table : List ℕ) (edition : ℕ) → jaChar (editionWith table edition) 0x30FB ≡ true
+unfolding jaChar editionWith kindWith kinds stretch kindAmong kindBy anyKind kanjiWith elem anyOf signs within
+lent-dot table edition = rw (sign-is edition 0x30FB)
 
 -- so an ASCII label has none, and of a label that is what it is taken for the rows are the table's
 module _ (P : Permits) (ja : jaChar P 0x30FB ≡ true) (l : List ℕ) where

@@ -5,7 +5,7 @@ use characters::is_ascii;
 use characters::kind_with;
 use rules::Kinds;
 ghost use mathlib.Core.Path.{_≡_};
-ghost use Rattle.rules.specs.Editions.{todayWith};
+ghost use Rattle.rules.specs.Editions.{editionWith};
 ghost use Rattle.rules.specs.Kinds.{anyFound};
 ghost use Rattle.labels.specs.Held.{unfitHeld, heldIn};
 
@@ -23,8 +23,8 @@ fn unfit() -> Held
 }
 
 // What a label holds, by a lent table of kanji. Below 80 stands the ASCII set and nothing Japanese, from 80 on nothing of the ASCII set.
-pub fn held_with(kanji: &[u32], label: &[u32]) -> Held
-    ensures { λ r. ⌜ r ≡ heldIn (todayWith (now (kanji .entry))) (now (label .entry)) ⌝ }
+pub fn held_with(kanji: &[u32], edition: u32, label: &[u32]) -> Held
+    ensures { λ r. ⌜ r ≡ heldIn (editionWith (now (kanji .entry)) edition) (now (label .entry)) ⌝ }
 {
     let mut any_hiragana = false;
     let mut any_katakana = false;
@@ -39,7 +39,7 @@ pub fn held_with(kanji: &[u32], label: &[u32]) -> Held
                 return unfit();
             }
         } else {
-            let kind = kind_with(kanji, c);
+            let kind = kind_with(kanji, edition, c);
             match kind {
                 Kind::Hiragana => any_hiragana = true,
                 Kind::Katakana => any_katakana = true,

@@ -20,7 +20,7 @@ ghost use Rattle.lists.specs.Rows.{first};
 ghost use Rattle.rules.specs.Labels.{period};
 ghost use Rattle.rules.specs.Permits.{jaChar, labelChar};
 ghost use Rattle.rules.specs.Rules.{unfit, ordinary, isJapanese, hyphenEdge, hyphenPair, asks, bareDot, labelRows};
-ghost use Rattle.rules.specs.Editions.{todayWith};
+ghost use Rattle.rules.specs.Editions.{editionWith};
 ghost use Rattle.labels.specs.Known.{knownRows};
 
 // The numbers that rules 7 to 10 (document 01) and 17 (document 02, K3) answer.
@@ -63,42 +63,42 @@ pub fn label_end(text: &[u32], from: usize) -> usize
 }
 
 // A Japanese character? None stands below 3003.
-fn is_ja(kanji: &[u32], c: u32) -> bool
-    ensures { λ r. ⌜ r ≡ jaChar (todayWith (now (kanji .entry))) c ⌝ }
+fn is_ja(kanji: &[u32], edition: u32, c: u32) -> bool
+    ensures { λ r. ⌜ r ≡ jaChar (editionWith (now (kanji .entry)) edition) c ⌝ }
 {
     if c < 0x3003 {
         return false;
     }
-    is_japanese(kind_with(kanji, c))
+    is_japanese(kind_with(kanji, edition, c))
 }
 
 // May a label hold c? The ASCII set stands below 80.
-pub fn in_label_with(kanji: &[u32], c: u32) -> bool
-    ensures { λ r. ⌜ r ≡ labelChar (todayWith (now (kanji .entry))) c ⌝ }
+pub fn in_label_with(kanji: &[u32], edition: u32, c: u32) -> bool
+    ensures { λ r. ⌜ r ≡ labelChar (editionWith (now (kanji .entry)) edition) c ⌝ }
 {
     if c < 0x80 {
         return is_ascii(c);
     }
-    is_japanese(kind_with(kanji, c))
+    is_japanese(kind_with(kanji, edition, c))
 }
 
-fn is_unfit(kanji: &[u32], c: u32) -> bool
-    ensures { λ r. ⌜ r ≡ unfit (todayWith (now (kanji .entry))) c ⌝ }
+fn is_unfit(kanji: &[u32], edition: u32, c: u32) -> bool
+    ensures { λ r. ⌜ r ≡ unfit (editionWith (now (kanji .entry)) edition) c ⌝ }
 {
     if c == PERIOD {
         return false;
     }
-    let fit = in_label_with(kanji, c);
+    let fit = in_label_with(kanji, edition, c);
     !fit
 }
 
 // The index of the first character that is neither period nor may stand in a label, or the length.
-pub fn first_unfit_with(kanji: &[u32], form: &[u32]) -> usize
-    ensures { λ r. ⌜ r ≡ indexOf (unfit (todayWith (now (kanji .entry)))) (now (form .entry)) ⌝ }
+pub fn first_unfit_with(kanji: &[u32], edition: u32, form: &[u32]) -> usize
+    ensures { λ r. ⌜ r ≡ indexOf (unfit (editionWith (now (kanji .entry)) edition)) (now (form .entry)) ⌝ }
 {
     let mut i = 0;
     while i < form.len() {
-        if is_unfit(kanji, form[i]) {
+        if is_unfit(kanji, edition, form[i]) {
             return i;
         }
         i += 1;
@@ -107,12 +107,12 @@ pub fn first_unfit_with(kanji: &[u32], form: &[u32]) -> usize
 }
 
 // Does the label hold a Japanese character?
-pub fn holds_japanese_with(kanji: &[u32], label: &[u32]) -> bool
-    ensures { λ r. ⌜ r ≡ isJapanese (todayWith (now (kanji .entry))) (now (label .entry)) ⌝ }
+pub fn holds_japanese_with(kanji: &[u32], edition: u32, label: &[u32]) -> bool
+    ensures { λ r. ⌜ r ≡ isJapanese (editionWith (now (kanji .entry)) edition) (now (label .entry)) ⌝ }
 {
     let mut i = 0;
     while i < label.len() {
-        if is_ja(kanji, label[i]) {
+        if is_ja(kanji, edition, label[i]) {
             return true;
         }
         i += 1;
@@ -121,8 +121,8 @@ pub fn holds_japanese_with(kanji: &[u32], label: &[u32]) -> bool
 }
 
 // A Japanese character other than 3006, 30FC and 30FB?
-pub fn is_ordinary_with(kanji: &[u32], c: u32) -> bool
-    ensures { λ r. ⌜ r ≡ ordinary (todayWith (now (kanji .entry))) c ⌝ }
+pub fn is_ordinary_with(kanji: &[u32], edition: u32, c: u32) -> bool
+    ensures { λ r. ⌜ r ≡ ordinary (editionWith (now (kanji .entry)) edition) c ⌝ }
 {
     if c == 0x3006 {
         return false;
@@ -133,15 +133,15 @@ pub fn is_ordinary_with(kanji: &[u32], c: u32) -> bool
     if c == MIDDLE_DOT {
         return false;
     }
-    is_ja(kanji, c)
+    is_ja(kanji, edition, c)
 }
 
-fn any_ordinary(kanji: &[u32], label: &[u32]) -> bool
-    ensures { λ r. ⌜ r ≡ anyOf (ordinary (todayWith (now (kanji .entry)))) (now (label .entry)) ⌝ }
+fn any_ordinary(kanji: &[u32], edition: u32, label: &[u32]) -> bool
+    ensures { λ r. ⌜ r ≡ anyOf (ordinary (editionWith (now (kanji .entry)) edition)) (now (label .entry)) ⌝ }
 {
     let mut i = 0;
     while i < label.len() {
-        if is_ordinary_with(kanji, label[i]) {
+        if is_ordinary_with(kanji, edition, label[i]) {
             return true;
         }
         i += 1;
@@ -150,22 +150,22 @@ fn any_ordinary(kanji: &[u32], label: &[u32]) -> bool
 }
 
 // A middle dot, and no Japanese character other than the three?
-fn has_bare_dot(kanji: &[u32], label: &[u32]) -> bool
-    ensures { λ r. ⌜ r ≡ bareDot (todayWith (now (kanji .entry))) (now (label .entry)) ⌝ }
+fn has_bare_dot(kanji: &[u32], edition: u32, label: &[u32]) -> bool
+    ensures { λ r. ⌜ r ≡ bareDot (editionWith (now (kanji .entry)) edition) (now (label .entry)) ⌝ }
 {
     if lists::holds(label, MIDDLE_DOT) {
-        let helped = any_ordinary(kanji, label);
+        let helped = any_ordinary(kanji, edition, label);
         return !helped;
     }
     false
 }
 
 // The same of a label that is known to be Japanese or not: the middle dot is a Japanese character, so no ASCII label has one.
-fn is_bare(kanji: &[u32], label: &[u32], japanese: bool) -> bool
-    ensures { λ r. ⌜ r ≡ (japanese && bareDot (todayWith (now (kanji .entry))) (now (label .entry))) ⌝ }
+fn is_bare(kanji: &[u32], edition: u32, label: &[u32], japanese: bool) -> bool
+    ensures { λ r. ⌜ r ≡ (japanese && bareDot (editionWith (now (kanji .entry)) edition) (now (label .entry))) ⌝ }
 {
     if japanese {
-        return has_bare_dot(kanji, label);
+        return has_bare_dot(kanji, edition, label);
     }
     false
 }
@@ -245,13 +245,14 @@ fn refused(number: u8, at: usize) -> Answer
 // with `every` 17 is asked of a Japanese one too, and `at` is the label's place.
 pub fn known_rule_with(
     kanji: &[u32],
+    edition: u32,
     label: &[u32],
     japanese: bool,
     least: usize,
     every: bool,
     at: usize,
 ) -> Answer
-    ensures { λ r. ⌜ r ≡ first (knownRows (todayWith (now (kanji .entry))) japanese (asks least every) (now (label .entry)) at) ⌝ }
+    ensures { λ r. ⌜ r ≡ first (knownRows (editionWith (now (kanji .entry)) edition) japanese (asks least every) (now (label .entry)) at) ⌝ }
 {
     if has_edge(label) {
         return refused(HYPHEN_EDGE, at);
@@ -266,7 +267,7 @@ pub fn known_rule_with(
     if is_pretending(label, japanese, every) {
         return refused(PRETENDING, at);
     }
-    if is_bare(kanji, label, japanese) {
+    if is_bare(kanji, edition, label, japanese) {
         return refused(BARE_DOT, at);
     }
     Answer {
@@ -276,9 +277,16 @@ pub fn known_rule_with(
 }
 
 // The same of any label.
-pub fn label_rule_with(kanji: &[u32], label: &[u32], least: usize, every: bool, at: usize) -> Answer
-    ensures { λ r. ⌜ r ≡ first (labelRows (todayWith (now (kanji .entry))) (asks least every) (now (label .entry)) at) ⌝ }
+pub fn label_rule_with(
+    kanji: &[u32],
+    edition: u32,
+    label: &[u32],
+    least: usize,
+    every: bool,
+    at: usize,
+) -> Answer
+    ensures { λ r. ⌜ r ≡ first (labelRows (editionWith (now (kanji .entry)) edition) (asks least every) (now (label .entry)) at) ⌝ }
 {
-    let japanese = holds_japanese_with(kanji, label);
-    known_rule_with(kanji, label, japanese, least, every, at)
+    let japanese = holds_japanese_with(kanji, edition, label);
+    known_rule_with(kanji, edition, label, japanese, least, every, at)
 }

@@ -1,37 +1,53 @@
 -- What the live check says of hope after any code points is what `hopeful` says of them: the argument over any rules (Typing), at `hopeful`.
 -- So it says yes exactly where some continuation of what was typed is accepted by the nightly rules.
 -- Assumes nothing.
-use mathlib.Core.Path.{_≡_, sym, _∙_}
+use mathlib.Core.Path.{_≡_, refl, sym, ap, _∙_}
 use mathlib.Core.Bool.{true, false}
 use mathlib.Core.List.{List, _++_}
 use mathlib.Core.Logic.{_↔_}
 use Prim.Native.Nat.{ℕ}
-use Rattle.rules.specs.Permits.{Permits}
-use Rattle.rules.specs.Editions.{today}
+use Rattle.lists.specs.Tests.{within}
+use Rattle.rules.specs.Permits.{Permits, ShortMiddles}
+use Rattle.rules.specs.Editions.{isEdition, editionOf, today}
 use Rattle.rules.specs.Hopeful.{MayBecome, hopeful, HopeLaws}
 use Rattle.rules.proofs.Hopeless.{past-hope}
 use Rattle.rules.proofs.Hopeful.{hopeful-exactly, accepted-hopeful, hopeless-stays}
-use Rattle.rules.proofs.Today.{today-hope-laws}
-use Rattle.live.specs.Live.{fresh, typed, looked, hoped}
-use Rattle.live.proofs.Typing.{live-is}
+use Rattle.rules.proofs.Editions.{edition-short, edition-hope-laws}
+use Rattle.rules.proofs.InForce.{unknown-hopeless}
+use Rattle.live.specs.Live.{fresh, typed, lookedBy, looked, hoped}
+use Rattle.live.proofs.Typing.{edition-kept, live-is}
 use Rattle.live.proofs.Nightly.{same-number}
 
-module _ (P : Permits) (H : HopeLaws P) (cs : List ℕ) where
-  pub hope-is : hoped P (typed fresh cs) ≡ hopeful P cs
+module _ (E : ℕ → Permits) (e : ℕ) where
+  -- past 256 there is no hope where the prefecture labels are short
+  pub hope-is : ShortMiddles (E e) → (cs : List ℕ) → hoped E (typed (fresh e) cs) ≡ hopeful (E e) cs
   unfolding hoped
-  hope-is = live-is (hopeful P) false (past-hope P (H .laws .middle-short)) cs
+  hope-is short cs =
+      ap (λ (k : ℕ). lookedBy (hopeful (E k)) false (typed (fresh e) cs)) (edition-kept e cs)
+      ∙ live-is (hopeful (E e)) false (past-hope (E e) short) e cs
 
-  pub hope-exactly : (hoped P (typed fresh cs) ≡ true) ↔ MayBecome P cs
-  hope-exactly = let h = hopeful-exactly P H cs in (λ e. h .0 (sym hope-is ∙ e), λ c. hope-is ∙ h .1 c)
+  module _ (H : HopeLaws (E e)) where
+    hope-here : (cs : List ℕ) → hoped E (typed (fresh e) cs) ≡ hopeful (E e) cs
+    hope-here = hope-is (H .laws .middle-short)
 
-  -- what is shown as accepted has hope
-  pub accepted-hope : looked P (typed fresh cs) .number ≡ 0 → hoped P (typed fresh cs) ≡ true
-  accepted-hope e = hope-is ∙ accepted-hopeful P H cs (sym (same-number P cs) ∙ e)
+    pub hope-exactly : (cs : List ℕ) → (hoped E (typed (fresh e) cs) ≡ true) ↔ MayBecome (E e) cs
+    hope-exactly cs = let h = hopeful-exactly (E e) H cs in (λ q. h .0 (sym (hope-here cs) ∙ q), λ c. hope-here cs ∙ h .1 c)
 
--- once there is no hope, nothing that is typed brings it back
-pub hope-gone : (P : Permits) → HopeLaws P → (cs ds : List ℕ) → hoped P (typed fresh cs) ≡ false → hoped P (typed fresh (cs ++ ds)) ≡ false
-hope-gone P H cs ds e = hope-is P H (cs ++ ds) ∙ hopeless-stays P H cs ds (sym (hope-is P H cs) ∙ e)
+    -- what is shown as accepted has hope
+    pub accepted-hope : (cs : List ℕ) → looked E (typed (fresh e) cs) .number ≡ 0 → hoped E (typed (fresh e) cs) ≡ true
+    accepted-hope cs q = hope-here cs ∙ accepted-hopeful (E e) H cs (sym (same-number E e cs) ∙ q)
 
--- at the edition in force
-pub hope-today : (cs : List ℕ) → (hoped today (typed fresh cs) ≡ true) ↔ MayBecome today cs
-hope-today = hope-exactly today today-hope-laws
+    -- once there is no hope, nothing that is typed brings it back
+    pub hope-gone : (cs ds : List ℕ) → hoped E (typed (fresh e) cs) ≡ false → hoped E (typed (fresh e) (cs ++ ds)) ≡ false
+    hope-gone cs ds q = hope-here (cs ++ ds) ∙ hopeless-stays (E e) H cs ds (sym (hope-here cs) ∙ q)
+
+-- within each edition, and by a number that is none; at the edition in force
+pub hope-edition : (e : ℕ) → isEdition e ≡ true → (cs : List ℕ) → (hoped editionOf (typed (fresh e) cs) ≡ true) ↔ MayBecome (editionOf e) cs
+hope-edition e there-is = hope-exactly editionOf e (edition-hope-laws e there-is)
+
+pub no-hope : (e : ℕ) → isEdition e ≡ false → (cs : List ℕ) → hoped editionOf (typed (fresh e) cs) ≡ false
+no-hope e unknown cs = hope-is editionOf e (edition-short e) cs ∙ unknown-hopeless e unknown cs
+
+pub hope-today : (cs : List ℕ) → (hoped editionOf (typed (fresh 4) cs) ≡ true) ↔ MayBecome today cs
+unfolding within
+hope-today = hope-edition 4 refl

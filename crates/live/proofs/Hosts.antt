@@ -30,38 +30,39 @@ module _ (P : Permits) where
       let front = host-front P t (front-3 P t (λ e. omega arith) h) (λ e. omega arith) in
       rw (stands (hostTextRows P t) _ front (λ e. omega arith), shown-over t h)
 
-  pub live-is-hosts : (cs : List ℕ) → hostLooked P (typed fresh cs) ≡ hostJudged P cs
+  -- whichever edition the state was given
+  pub live-is-hosts : (e : ℕ) (cs : List ℕ) → hostLooked P (typed (fresh e) cs) ≡ hostJudged P cs
   unfolding hostLooked
-  live-is-hosts cs = live-is (hostJudged P) hostTooLong past cs
+  live-is-hosts e cs = live-is (hostJudged P) hostTooLong past e cs
 
   -- part by part: number and place are the rules', and up to 256 code points the text is their normal form
-  module _ (cs : List ℕ) where
-    pub same-number : hostLooked P (typed fresh cs) .number ≡ hostRules P cs .number
+  module _ (e : ℕ) (cs : List ℕ) where
+    pub same-number : hostLooked P (typed (fresh e) cs) .number ≡ hostRules P cs .number
     unfolding hostJudged
-    same-number = ap (λ (j : HostJudged). j .number) (live-is-hosts cs)
+    same-number = ap (λ (j : HostJudged). j .number) (live-is-hosts e cs)
 
-    pub same-place : hostLooked P (typed fresh cs) .place ≡ hostRules P cs .place
+    pub same-place : hostLooked P (typed (fresh e) cs) .place ≡ hostRules P cs .place
     unfolding hostJudged
-    same-place = ap (λ (j : HostJudged). j .place) (live-is-hosts cs)
+    same-place = ap (λ (j : HostJudged). j .place) (live-is-hosts e cs)
 
-    pub same-form : length cs ≤ 256 → hostLooked P (typed fresh cs) .form ≡ padded (normalForm cs)
+    pub same-form : length cs ≤ 256 → hostLooked P (typed (fresh e) cs) .form ≡ padded (normalForm cs)
     unfolding hostJudged
-    same-form h = ap (λ (j : HostJudged). j .form) (live-is-hosts cs) ∙ ap padded (shown-full cs h)
+    same-form h = ap (λ (j : HostJudged). j .form) (live-is-hosts e cs) ∙ ap padded (shown-full cs h)
 
     -- past 256 it shows `hostTooLong`, however many follow
-    pub shown-past : 256 < length cs → hostLooked P (typed fresh cs) ≡ hostTooLong
-    shown-past h = live-is-hosts cs ∙ past cs h
+    pub shown-past : 256 < length cs → hostLooked P (typed (fresh e) cs) ≡ hostTooLong
+    shown-past h = live-is-hosts e cs ∙ past cs h
 
 -- the look after any code points and the call for the ASCII form of that text say the same
-pub look-and-host : (P : Permits) (cs : List ℕ) {j : HostJudged} → j ≡ hostLooked P (typed fresh cs)
+pub look-and-host : (P : Permits) (e : ℕ) (cs : List ℕ) {j : HostJudged} → j ≡ hostLooked P (typed (fresh e) cs)
     → {before after : List ℕ} {r : HostForm} → HostForms P cs before after r → 255 ≤ length before → HostAgrees j r
-look-and-host P cs look f room =
+look-and-host P e cs look f room =
     let said = host-says P f room in
     record {
-      number = ap (λ (x : HostJudged). x .number) look ∙ same-number P cs ∙ sym (said .0);
-      place = ap (λ (x : HostJudged). x .place) look ∙ same-place P cs ∙ sym (said .1);
+      number = ap (λ (x : HostJudged). x .number) look ∙ same-number P e cs ∙ sym (said .0);
+      place = ap (λ (x : HostJudged). x .place) look ∙ same-place P e cs ∙ sym (said .1);
     }
 
 -- a text that is typed with minus signs is shown as the same with hyphens (document 02, K2)
-pub minus-shown : (P : Permits) (cs : List ℕ) → hostLooked P (typed fresh (withHyphens cs)) ≡ hostLooked P (typed fresh cs)
-minus-shown P cs = live-is-hosts P (withHyphens cs) ∙ minus-host-judged P cs ∙ sym (live-is-hosts P cs)
+pub minus-shown : (P : Permits) (e : ℕ) (cs : List ℕ) → hostLooked P (typed (fresh e) (withHyphens cs)) ≡ hostLooked P (typed (fresh e) cs)
+minus-shown P e cs = live-is-hosts P e (withHyphens cs) ∙ minus-host-judged P cs ∙ sym (live-is-hosts P e cs)

@@ -1,19 +1,24 @@
--- What the live check shows after any code points is what the nightly rules say of them: the argument over any rules (Typing), at
--- the rules of a name. So it shows what the nightly calls answer to that text, since with room these say what the rules say.
+-- What the live check shows after any code points is what the nightly rules of its edition say of them: the argument over any rules
+-- (Typing), at the rules of a name by the edition that the state was given and keeps. So it shows what the nightly calls answer to that text, since with room these say what the rules say.
 -- Assumes nothing.
-use mathlib.Core.Path.{_≡_, sym, ap, _∙_}
+use mathlib.Core.Path.{_≡_, refl, sym, ap, _∙_}
+use mathlib.Core.Bool.{false}
 use mathlib.Core.List.{List}
 use Prim.Native.Nat.{ℕ, _≤_, _<_}
 use native.Mathlib.Omega.{arith}
 use lib.ListN.{length}
 use borrow.Author.Tests.{lt-ltb, le-ltb}
+use Rattle.lists.specs.Tests.{pick}
+use Rattle.lists.proofs.Laws.{by-test}
 use Rattle.normal.specs.Normal.{normalForm}
 use Rattle.rules.specs.Labels.{labels}
-use Rattle.rules.specs.Permits.{Permits, Laws}
+use Rattle.rules.specs.Editions.{isEdition, editionOf}
+use Rattle.rules.specs.Permits.{Permits, InStretch, ShortMiddles}
 use Rattle.rules.specs.Places.{placesSaid, CutsBack}
 use Rattle.rules.specs.Rules.{rules}
 use Rattle.rules.specs.declared.Verdict.{Verdict}
-use Rattle.rules.proofs.Steps.{front-3, text-front}
+use Rattle.rules.proofs.Steps.{front-3, text-25, text-front}
+use Rattle.rules.proofs.InForce.{unknown-25}
 use Rattle.rules.proofs.Minus.{withHyphens}
 use Rattle.fronts.specs.Fronts.{shown, padded}
 use Rattle.names.specs.Calls.{judged, checkSaid, Checks, asciiSaid, AsciiForms}
@@ -23,76 +28,97 @@ use Rattle.names.specs.declared.Judged.{Judged}
 use Rattle.names.proofs.Demands.{check-says, ascii-says}
 use Rattle.names.proofs.Minus.{minus-judged}
 use Rattle.names.proofs.Placing.{check-places, judge-cuts}
-use Rattle.live.specs.Live.{fresh, typed, tooLong, looked, Agrees}
-use Rattle.live.proofs.Typing.{live-is}
+use Rattle.live.specs.Live.{fresh, typed, lookedBy, noText, tooLong, looked, Agrees}
+use Rattle.live.proofs.Typing.{edition-kept, live-is}
 
 module _ (P : Permits) where
-  -- past 256 the rules say 3 at place 256, and there is no label and no text
-  pub past : (t : List ℕ) → 256 < length t → judged P t ≡ tooLong
-  unfolding judged placesSaid shown padded tooLong
-  past t h = rw (text-front P t (front-3 P t (λ e. omega arith) h) (λ e. omega arith), lt-ltb 256 (length t) h)
+  -- past 256 the rules say 3 at place 256, or 25 where there is no such edition, and there is no label and no text
+  pub past : (t : List ℕ) → 256 < length t → judged P t ≡ tooLong (P .known)
+  unfolding judged placesSaid shown padded tooLong noText
+  past t h = by-test (λ b. P .known ≡ b → judged P t ≡ pick b (noText 3 256) (noText 25 0)) (P .known)
+      (λ p q. rw (text-front P t (front-3 P t (λ e. omega arith) h) q (λ e. omega arith), lt-ltb 256 (length t) h))
+      (λ p q. rw (text-25 P t q, lt-ltb 256 (length t) h)) refl
 
-  pub live-is-nightly : (cs : List ℕ) → looked P (typed fresh cs) ≡ judged P cs
+-- for any editions: the state was given one of them, by its number
+module _ (E : ℕ → Permits) (e : ℕ) where
+  pub live-is-nightly : (cs : List ℕ) → looked E (typed (fresh e) cs) ≡ judged (E e) cs
   unfolding looked
-  live-is-nightly cs = live-is (judged P) tooLong past cs
+  live-is-nightly cs =
+      ap (λ (k : ℕ). lookedBy (judged (E k)) (tooLong (E k .known)) (typed (fresh e) cs)) (edition-kept e cs)
+      ∙ live-is (judged (E e)) (tooLong (E e .known)) (past (E e)) e cs
 
   -- part by part: number, place and class are the rules', the label places too, and up to 256 code points the text is their normal form
   module _ (cs : List ℕ) where
-    pub same-number : looked P (typed fresh cs) .number ≡ rules P cs .number
+    pub same-number : looked E (typed (fresh e) cs) .number ≡ rules (E e) cs .number
     unfolding judged
     same-number = ap (λ (j : Judged). j .number) (live-is-nightly cs)
 
-    pub same-place : looked P (typed fresh cs) .place ≡ rules P cs .place
+    pub same-place : looked E (typed (fresh e) cs) .place ≡ rules (E e) cs .place
     unfolding judged
     same-place = ap (λ (j : Judged). j .place) (live-is-nightly cs)
 
-    pub same-class : looked P (typed fresh cs) .class ≡ rules P cs .class
+    pub same-class : looked E (typed (fresh e) cs) .class ≡ rules (E e) cs .class
     unfolding judged
     same-class = ap (λ (j : Judged). j .class) (live-is-nightly cs)
 
-    pub same-places : looked P (typed fresh cs) .labels ≡ placesSaid (labels (normalForm cs)) (rules P cs .number)
+    pub same-places : looked E (typed (fresh e) cs) .labels ≡ placesSaid (labels (normalForm cs)) (rules (E e) cs .number)
     unfolding judged
     same-places = ap (λ (j : Judged). j .labels) (live-is-nightly cs)
 
-    pub same-form : length cs ≤ 256 → looked P (typed fresh cs) .form ≡ padded (normalForm cs)
+    pub same-form : length cs ≤ 256 → looked E (typed (fresh e) cs) .form ≡ padded (normalForm cs)
     unfolding judged shown
     same-form h = ap (λ (j : Judged). j .form) (live-is-nightly cs) ∙ rw (le-ltb 256 (length cs) h)
 
     -- past 256 it shows `tooLong`, which has no label, however many follow
-    pub shown-past : 256 < length cs → looked P (typed fresh cs) ≡ tooLong
-    shown-past h = live-is-nightly cs ∙ past cs h
+    pub shown-past : 256 < length cs → looked E (typed (fresh e) cs) ≡ tooLong (E e .known)
+    shown-past h = live-is-nightly cs ∙ past (E e) cs h
+
+-- by a number that is no edition it shows 25 at place 0 after any code points, in place of 2 and 3 too, with the text as otherwise
+module _ (e : ℕ) (unknown : isEdition e ≡ false) (cs : List ℕ) where
+  pub shows-25 : (looked editionOf (typed (fresh e) cs) .number ≡ 25) × (looked editionOf (typed (fresh e) cs) .place ≡ 0)
+  shows-25 =
+      let said = unknown-25 e unknown cs in
+      (same-number editionOf e cs ∙ ap (λ (v : Verdict). v .number) said, same-place editionOf e cs ∙ ap (λ (v : Verdict). v .place) said)
+
+  pub form-25 : looked editionOf (typed (fresh e) cs) .form ≡ padded (shown cs)
+  unfolding judged
+  form-25 = ap (λ (j : Judged). j .form) (live-is-nightly editionOf e cs)
 
 -- ---- the look and the nightly calls
 
-module _ (P : Permits) (cs : List ℕ) {j : Judged} (look : j ≡ looked P (typed fresh cs)) where
+module _ (E : ℕ → Permits) (e : ℕ) (cs : List ℕ) {j : Judged} (look : j ≡ looked E (typed (fresh e) cs)) where
+  abbrev P : Permits
+  P = E e
+
   agrees : {v : Verdict} → v ≡ rules P cs → Agrees j v
-  agrees e = record {
-    number = ap (λ (x : Judged). x .number) look ∙ same-number P cs ∙ sym (ap (λ (v : Verdict). v .number) e);
-    place = ap (λ (x : Judged). x .place) look ∙ same-place P cs ∙ sym (ap (λ (v : Verdict). v .place) e);
-    class = ap (λ (x : Judged). x .class) look ∙ same-class P cs ∙ sym (ap (λ (v : Verdict). v .class) e);
+  agrees q = record {
+    number = ap (λ (x : Judged). x .number) look ∙ same-number E e cs ∙ sym (ap (λ (v : Verdict). v .number) q);
+    place = ap (λ (x : Judged). x .place) look ∙ same-place E e cs ∙ sym (ap (λ (v : Verdict). v .place) q);
+    class = ap (λ (x : Judged). x .class) look ∙ same-class E e cs ∙ sym (ap (λ (v : Verdict). v .class) q);
   }
 
-  -- the look after any code points and the check of that text say the same number, place and class
+  -- the look after any code points and the check of that text by that edition say the same number, place and class
   pub look-and-check : {before after : List ℕ} {r : Checked} → Checks P cs before after r → 256 ≤ length before → Agrees j (checkSaid r)
   look-and-check c room = agrees (check-says P c room)
 
   -- and the call for its ASCII form
-  pub look-and-ascii : Laws P → {before after : List ℕ} {r : AsciiForm} → AsciiForms P cs before after r → 192 ≤ length before → Agrees j (asciiSaid r)
-  look-and-ascii L a room = agrees (ascii-says P L a room)
+  pub look-and-ascii : InStretch P → ShortMiddles P → {before after : List ℕ} {r : AsciiForm} → AsciiForms P cs before after r → 192 ≤ length before
+      → Agrees j (asciiSaid r)
+  look-and-ascii stretch short a room = agrees (ascii-says P stretch short a room)
 
   -- where the labels stand is what the check of that text says
   pub look-and-places : {before after : List ℕ} {r : Checked} → Checks P cs before after r → 256 ≤ length before → j .labels ≡ r .labels
   look-and-places {r = r} c room =
       let n : r .number ≡ rules P cs .number = ap (λ (v : Verdict). v .number) (check-says P c room) in
-      ap (λ (x : Judged). x .labels) look ∙ same-places P cs ∙ ap (placesSaid (labels (normalForm cs))) (sym n) ∙ sym (check-places P c)
+      ap (λ (x : Judged). x .labels) look ∙ same-places E e cs ∙ ap (placesSaid (labels (normalForm cs))) (sym n) ∙ sym (check-places P c)
 
   -- and cuts the labels out of the text that is shown
   pub look-cuts : j .number ≡ 0 → CutsBack (normalForm cs) (j .form) (j .length) (j .labels)
   look-cuts z =
-      let e = look ∙ live-is-nightly P cs in
-      rw e (judge-cuts P cs (ap (λ (x : Judged). x .number) (sym e) ∙ z))
+      let q = look ∙ live-is-nightly E e cs in
+      rw q (judge-cuts P cs (ap (λ (x : Judged). x .number) (sym q) ∙ z))
 
 -- ---- a text that is typed with minus signs is shown as the same with hyphens (document 02, K2)
 
-pub minus-shown : (P : Permits) (cs : List ℕ) → looked P (typed fresh (withHyphens cs)) ≡ looked P (typed fresh cs)
-minus-shown P cs = live-is-nightly P (withHyphens cs) ∙ minus-judged P cs ∙ sym (live-is-nightly P cs)
+pub minus-shown : (E : ℕ → Permits) (e : ℕ) (cs : List ℕ) → looked E (typed (fresh e) (withHyphens cs)) ≡ looked E (typed (fresh e) cs)
+minus-shown E e cs = live-is-nightly E e (withHyphens cs) ∙ minus-judged (E e) cs ∙ sym (live-is-nightly E e cs)

@@ -2,14 +2,17 @@
 -- since the state holds the text itself until it is past 256, and then only that it is.
 -- Assumes nothing.
 use mathlib.Core.Path.{_≡_, refl, sym, ap, _∙_}
+use mathlib.Core.Bool.{Bool, true, false}
 use mathlib.Core.List.{List, [], _∷_, _++_, append-nil}
 use mathlib.Core.Logic.{_⊎_, inl, inr, ⊎-elim}
-use Prim.Native.Nat.{ℕ, suc, _≤_, _<_}
+use Prim.Native.Nat.{ℕ, suc, _+_, _≤_, _<_}
 use native.Mathlib.Numerals.{add-one}
 use native.Mathlib.Omega.{arith}
-use lib.ListN.{length, take, length-set, length-replicate, length-append}
+use lib.ListN.{length, take, set, length-set, length-replicate, length-append}
 use lib.Seq.{take-suc-set, append-snoc}
+use lib.Dec.{ltb}
 use borrow.Author.Tests.{lt-ltb, le-ltb}
+use Rattle.lists.specs.Tests.{pick}
 use Rattle.lists.proofs.Laws.{lt-or-le}
 use Rattle.live.specs.Live.{fresh, stepped, typed, lookedBy}
 use Rattle.live.specs.declared.Live.{Live}
@@ -29,9 +32,9 @@ pub record Past (l : Live) (t : List ℕ) : Type 0 where
 abbrev pub Holds : Live → List ℕ → Type 0
 Holds l t = Text l t ⊎ Past l t
 
-pub fresh-holds : Holds fresh []
+pub fresh-holds : (e : ℕ) → Holds (fresh e) []
 unfolding fresh
-fresh-holds = inl (record { array = length-replicate {A = ℕ} 256 0; count = refl; few = omega arith; held = refl })
+fresh-holds e = inl (record { array = length-replicate {A = ℕ} 256 0; count = refl; few = omega arith; held = refl })
 
 more : (t : List ℕ) (c : ℕ) → length (t ++ c ∷ []) ≡ suc (length t)
 more t c = omega (arith, length-append t (c ∷ []))
@@ -61,6 +64,27 @@ unfolding typed
 typed-holds [] l t h = rw append-nil h
 typed-holds (c ∷ cs) l t h = rw append-snoc at (typed-holds cs (stepped l c) (t ++ c ∷ []) (step-holds l t c h))
 
+-- ---- the edition is kept
+
+step-keeps : (l : Live) (c : ℕ) → stepped l c .edition ≡ l .edition
+unfolding stepped
+step-keeps l c = go (ltb (l .count) 256)
+  where
+    go : (b : Bool) → pick {A = Live} b (record { edition = l .edition; text = set (l .text) (l .count) c; count = l .count + 1 }) (record { edition = l .edition; text = l .text; count = 257 }) .edition ≡ l .edition
+    go true = refl
+    go false = refl
+
+typed-keeps : (cs : List ℕ) (l : Live) → typed l cs .edition ≡ l .edition
+unfolding typed
+typed-keeps [] l = refl
+typed-keeps (c ∷ cs) l = typed-keeps cs (stepped l c) ∙ step-keeps l c
+
+pub edition-kept : (e : ℕ) (cs : List ℕ) → typed (fresh e) cs .edition ≡ e
+unfolding fresh
+edition-kept e cs = typed-keeps cs (fresh e)
+
+-- ---- what is shown
+
 module _ {A : Type 0} (says : List ℕ → A) (over : A) (past : (t : List ℕ) → 256 < length t → says t ≡ over) where
   shows : (l : Live) (t : List ℕ) → Holds l t → lookedBy says over l ≡ says t
   unfolding lookedBy
@@ -70,5 +94,5 @@ module _ {A : Type 0} (says : List ℕ → A) (over : A) (past : (t : List ℕ) 
       (λ x. rw (lt-ltb 256 (l .count) (omega (arith, x .count))) (sym (past t (x .many)))) h
 
   -- what is shown of all that was typed, as if it ended there
-  pub live-is : (cs : List ℕ) → lookedBy says over (typed fresh cs) ≡ says cs
-  live-is cs = shows (typed fresh cs) cs (typed-holds cs fresh [] fresh-holds)
+  pub live-is : (e : ℕ) (cs : List ℕ) → lookedBy says over (typed (fresh e) cs) ≡ says cs
+  live-is e cs = shows (typed (fresh e) cs) cs (typed-holds cs (fresh e) [] (fresh-holds e))

@@ -1,4 +1,4 @@
--- The live check: document 01, 'The live check'. A state, what a step makes of it, what a look shows, and whether
+-- The live check: document 01, 'The live check', with the editions of document 02, K12. A state, what a step makes of it, what a look shows, and whether
 -- what was typed may yet become a name, of any state.
 use mathlib.Core.Bool.{Bool, false}
 use mathlib.Core.List.{List, [], _∷_}
@@ -16,16 +16,16 @@ use Rattle.rules.specs.declared.Verdict.{Verdict}
 use Rattle.rules.specs.declared.Class.the-variants.{None}
 use Rattle.live.specs.declared.Live.{Live}
 
--- it has read nothing
-unfoldable pub fresh : Live
-fresh = record { text = replicate 256 0; count = 0 }
+-- it has read nothing, and is given its edition, any number (document 02, K12)
+unfoldable pub fresh : ℕ → Live
+fresh edition = record { edition = edition; text = replicate 256 0; count = 0 }
 
--- one code point more; 257 stands for more than 256, however many
+-- one code point more; 257 stands for more than 256, however many; the edition is kept
 unfoldable pub stepped : Live → ℕ → Live
 stepped l c =
     pick (ltb (l .count) 256)
-    (record { text = set (l .text) (l .count) c; count = l .count + 1 })
-    (record { text = l .text; count = 257 })
+    (record { edition = l .edition; text = set (l .text) (l .count) c; count = l .count + 1 })
+    (record { edition = l .edition; text = l .text; count = 257 })
 
 -- what steps make of a state
 unfoldable pub typed : Live → List ℕ → Live
@@ -36,13 +36,18 @@ typed l (c ∷ cs) = typed (stepped l c) cs
 unfoldable pub lookedBy : {A : Type 0} → (List ℕ → A) → A → Live → A
 lookedBy says over l = pick (ltb 256 (l .count)) over (says (take (l .count) (l .text)))
 
--- at the rules of a name: past 256 it shows 3 at place 256, no label (document 02, K7) and an empty text
-unfoldable pub tooLong : Judged
-tooLong =
-    record { number = 3; place = 256; class = None; labels = noPlaces; form = replicate 256 0; length = 0 }
+-- at the rules of a name: past 256 it shows 3 at place 256, or 25 at place 0 where there is no such edition (document
+-- 02, K12); no label (K7) and an empty text
+unfoldable pub noText : ℕ → ℕ → Judged
+noText number place =
+    record { number = number; place = place; class = None; labels = noPlaces; form = replicate 256 0; length = 0 }
 
-unfoldable pub looked : Permits → Live → Judged
-looked P l = lookedBy (judged P) tooLong l
+unfoldable pub tooLong : Bool → Judged
+tooLong known = pick known (noText 3 256) (noText 25 0)
+
+-- by the edition of the state, out of all editions
+unfoldable pub looked : (ℕ → Permits) → Live → Judged
+looked editions l = let P = editions (l .edition) in lookedBy (judged P) (tooLong (P .known)) l
 
 -- a look, and what a nightly call says: the same number, place and class
 pub record Agrees (j : Judged) (v : Verdict) : Type 0 where
@@ -50,6 +55,6 @@ pub record Agrees (j : Judged) (v : Verdict) : Type 0 where
   pub place : j .place ≡ v .place
   pub class : j .class ≡ v .class
 
--- whether what was typed may yet become a name; past 256 it may not
-unfoldable pub hoped : Permits → Live → Bool
-hoped P l = lookedBy (hopeful P) false l
+-- whether what was typed may yet become a name of the edition; past 256 it may not
+unfoldable pub hoped : (ℕ → Permits) → Live → Bool
+hoped editions l = lookedBy (hopeful (editions (l .edition))) false l

@@ -1,5 +1,5 @@
-// A look at the typed text as a nameserver's host name, from the same state: the text is handed to `hosts`. Its meaning is defined in
-// specs/HostLooks; that what it shows is what the nightly rules of a host say is proofs/Hosts.
+// A look at the typed text as a nameserver's host name, from the same state: the text is handed to `hosts`, which stay with the edition in
+// force, whichever the state was given. Its meaning is defined in specs/HostLooks; that what it shows is what the nightly rules of a host say is proofs/Hosts.
 use crate::Live;
 use hosts::HostJudged;
 ghost use mathlib.Core.Path.{_≡_};

@@ -28,6 +28,7 @@ use Rattle.rules.specs.declared.LabelPlaces.{LabelPlaces}
 use Rattle.rules.specs.declared.Verdict.{Verdict}
 use Rattle.rules.proofs.ByName.{clear-text, text-cleared}
 use Rattle.rules.proofs.Derived.{two-or-three}
+use Rattle.rules.proofs.Steps.{first-25}
 use Rattle.ascii.specs.Ascii.{asciiForm, uncoded}
 use Rattle.fronts.proofs.Shown.{at-start, shown-full}
 use Rattle.names.specs.Calls.{Answers, checked, checkRows, Checks, kindsSaid, asciiFormed, asciiRows, AsciiForms}
@@ -123,24 +124,32 @@ module _ (P : Permits) (text before : List ℕ) where
   unfolding checkRows
   check-no-room = no-room (checked _) refusedCheck (no-places-said _) text _ before 256 (textRows P text)
 
-  module _ (h : 256 ≤ length before) {lent form : List ℕ} {j : Ruled} (e : Judges P text lent form j) where
+  module _ (h : 256 ≤ length before) where
     checking : first (checkRows P text (length before)) ≡ first (textRows P text)
     unfolding checkRows
     checking = passed-over 1 (ltb (length before) 256) 0 _ (le-ltb (length before) 256 h)
 
-    pub check-refused : {r : Checked} → r ≡ refusedCheck (j .number) (j .place) → (j .number ≡ 0 → ⊥) → Checks P text before before r
-    check-refused q n = refuses (checked _) refusedCheck (no-places-said _) text _ before _ q (checking ∙ answer-is P text e) n
+    check-no : {n p : ℕ} {r : Checked} → first (textRows P text) ≡ record { number = n; place = p } → (n ≡ 0 → ⊥) → r ≡ refusedCheck n p → Checks P text before before r
+    check-no e n q = refuses (checked _) refusedCheck (no-places-said _) text _ before _ q (checking ∙ e) n
 
-    pub check-accepted : {after : List ℕ} {places : LabelPlaces} (z : j .number ≡ 0) → places ≡ labelPlaces (labels (take (j .length - 0) (drop 0 form)))
-        → after ≡ written (take (length before) (take (j .length - 0) (drop 0 form))) before
-        → Checks P text before after (record { number = 0; place = 0; class = j .class; labels = places; length = j .length })
-    unfolding placesSaid
-    check-accepted z q w =
-        let p = accepted-as P text e z in
-        let all : take (length before) (normalForm text) ≡ normalForm text = take-all (length before) (normalForm text) (omega (arith, p .size, p .few)) in
-        rw (q, p .form)
-        (answers-yes (checked _) _ text _ before (checking ∙ clear (textRows P text) (p .clear)) (p .class) (p .size)
-        (w ∙ rw (p .form, all)))
+    -- 25, with a number that is no edition
+    pub check-25 : {r : Checked} → P .known ≡ false → r ≡ refusedCheck 25 0 → Checks P text before before r
+    check-25 e q = check-no (first-25 P text e) (λ z. omega arith) q
+
+    module _ {lent form : List ℕ} {j : Ruled} (e : Judges P text lent form j) where
+      pub check-refused : {r : Checked} → r ≡ refusedCheck (j .number) (j .place) → (j .number ≡ 0 → ⊥) → Checks P text before before r
+      check-refused q n = check-no (answer-is P text e) n q
+
+      pub check-accepted : {after : List ℕ} {places : LabelPlaces} (z : j .number ≡ 0) → places ≡ labelPlaces (labels (take (j .length - 0) (drop 0 form)))
+          → after ≡ written (take (length before) (take (j .length - 0) (drop 0 form))) before
+          → Checks P text before after (record { number = 0; place = 0; class = j .class; labels = places; length = j .length })
+      unfolding placesSaid
+      check-accepted z q w =
+          let p = accepted-as P text e z in
+          let all : take (length before) (normalForm text) ≡ normalForm text = take-all (length before) (normalForm text) (omega (arith, p .size, p .few)) in
+          rw (q, p .form)
+          (answers-yes (checked _) _ text _ before (checking ∙ clear (textRows P text) (p .clear)) (p .class) (p .size)
+          (w ∙ rw (p .form, all)))
 
 -- ---- the whole ASCII form
 
@@ -163,6 +172,10 @@ module _ (P : Permits) (text before : List ℕ) where
     ascii-refused e f q =
         form-no q
         (encoding ∙ refused-before (textRows P text) _ (λ z. f (sym (ap (λ (a : Answer). a .number) e) ∙ z)) ∙ e) f
+
+    -- 25, with a number that is no edition
+    pub ascii-25 : {r : AsciiForm} → P .known ≡ false → r ≡ refusedForm 25 0 → AsciiForms P text before before r
+    ascii-25 e q = ascii-refused (first-25 P text e) (λ z. omega arith) q
 
     module _ (all : Clear (textRows P text)) where
       judged-on : first (asciiRows P text (length before)) ≡ first (row 14 (anyOf (uncoded P) (labels (normalForm text))) 0 ∷ [])

@@ -20,10 +20,10 @@ use Rattle.normal.specs.Normal.{normalForm}
 use Rattle.rules.specs.Labels.{labels}
 use Rattle.rules.specs.Permits.{Permits, InStretch, ShortMiddles, labelChar}
 use Rattle.rules.specs.Rules.{jp, labelRows, nameRows, frontRows, textRows, verdict, rules}
-use Rattle.rules.specs.Editions.{today}
+use Rattle.rules.specs.Editions.{editionOf, today}
 use Rattle.rules.proofs.ByName.{text-cleared}
 use Rattle.rules.proofs.Derived.{left-size, middle-length}
-use Rattle.rules.proofs.Today.{today-laws}
+use Rattle.rules.proofs.Editions.{edition-stretch, edition-short}
 use Rattle.ascii.specs.Ascii.{uncoded, asciiForm}
 use Rattle.ascii.proofs.Coded.{label-fine}
 use Rattle.names.specs.Calls.{asciiRows, AsciiForms}
@@ -84,10 +84,18 @@ module _ (P : Permits) (stretch : InStretch P) where
     unfolding verdict
     never-14 before after r a e = row-never (length before) (sym (ap (λ (x : AsciiForm). x .number) (a .gives .result)) ∙ e)
 
--- at the edition in force
+-- within each edition, and at the one in force
+module _ (e : ℕ) where
+  pub given-edition : (text before after : List ℕ) (r : AsciiForm) → rules (editionOf e) text .number ≡ 0 → AsciiForms (editionOf e) text before after r
+      → 192 ≤ length before → (r .number ≡ 0) × (after ≡ written (asciiForm (editionOf e) (normalForm text)) before)
+  given-edition text before after r z = ascii-given (editionOf e) (edition-stretch e) (edition-short e) text z before after r
+
+  pub never-14-edition : (text before after : List ℕ) (r : AsciiForm) → AsciiForms (editionOf e) text before after r → r .number ≡ 14 → ⊥
+  never-14-edition = never-14 (editionOf e) (edition-stretch e) (edition-short e)
+
 pub given-today : (text before after : List ℕ) (r : AsciiForm) → rules today text .number ≡ 0 → AsciiForms today text before after r → 192 ≤ length before
     → (r .number ≡ 0) × (after ≡ written (asciiForm today (normalForm text)) before)
-given-today text before after r e = ascii-given today (today-laws .stretch) (today-laws .middle-short) text e before after r
+given-today = given-edition 4
 
 pub never-14-today : (text before after : List ℕ) (r : AsciiForm) → AsciiForms today text before after r → r .number ≡ 14 → ⊥
-never-14-today = never-14 today (today-laws .stretch) (today-laws .middle-short)
+never-14-today = never-14-edition 4

@@ -1,7 +1,7 @@
 -- Whether a text may yet become a name: each return of the code is a case of the definition.
 -- Assumes nothing.
 use mathlib.Core.Path.{_≡_, refl, sym, ap, _∙_}
-use mathlib.Core.Bool.{Bool, true, false, not, or-false}
+use mathlib.Core.Bool.{Bool, true, false, not, _&&_, or-false}
 use mathlib.Core.List.{List, [], _∷_, _++_, append-nil}
 use mathlib.Core.Logic.{⊎-elim}
 use Prim.Native.Nat.{ℕ, suc, _+_, _-_, _≤_, _<_}
@@ -20,9 +20,8 @@ use Rattle.characters.specs.Characters.{hyphen, kinds, stretch, kindAmong, kind
 use Rattle.normal.specs.Normal.{replacedFrom, compose, normalPlaced, normalForm}
 use Rattle.rules.specs.Labels.{labels}
 use Rattle.rules.specs.Permits.{Permits, ShortMiddles, jaChar, middle}
-use Rattle.rules.specs.Prefectures.{prefectures}
 use Rattle.rules.specs.Rules.{unfit, middleDot, isJapanese, beginsWithHyphen, endsWithHyphen, hyphenEdge, short, long, hyphenPair, pretends, bareDot, labelRows, jp, frontRows}
-use Rattle.rules.specs.Editions.{todayWith}
+use Rattle.rules.specs.Editions.{middlesIn, editionWith}
 use Rattle.rules.specs.Hopeful.{begins, leftmost, tries, grows, hopeful}
 use Rattle.rules.proofs.ByName.{clear-front, front-clear, front-cleared}
 use Rattle.rules.proofs.Cuts.{some-label}
@@ -111,23 +110,29 @@ module _ (P : Permits) where
       (⊎-elim (λ k. k) (λ k. absurd (omega (arith, E .few k, some-label t))) (lt-or-le 3 (length (labels t))))
 
 -- a beginning of one of the edition's prefecture labels
-pub begins-middle : (table m : List ℕ) {p : Bool} → p ≡ anyOf (begins m) prefectures → p ≡ anyOf (begins m) (todayWith table .middles)
-unfolding todayWith
-begins-middle table m e = e
+pub begins-middle : (table : List ℕ) (edition : ℕ) (m : List ℕ) {p : Bool} → p ≡ anyOf (begins m) (middlesIn edition) → p ≡ anyOf (begins m) (editionWith table edition .middles)
+unfolding editionWith
+begins-middle table edition m e = e
 
 -- ---- a text
 
-pub nothing-yet : (table text : List ℕ) → length text ≡ 0 → true ≡ hopeful (todayWith table) text
-unfolding hopeful normalForm normalPlaced replacedFrom compose labels grows tries anyOf leftmost first labelRows hyphenEdge beginsWithHyphen endsWithHyphen short long hyphenPair pretends bareDot isJapanese middleDot hyphen todayWith jaChar kindWith kinds stretch kindAmong kindBy anyKind within
-nothing-yet table [] h = refl
-nothing-yet table (x ∷ xs) h = absurd (omega arith)
+-- by no edition any may
+pub not-known : (P : Permits) (text : List ℕ) → P .known ≡ false → false ≡ hopeful P text
+unfolding hopeful
+not-known P text e = rw e
+
+pub nothing-yet : (table : List ℕ) (edition : ℕ) (text : List ℕ) → editionWith table edition .known ≡ true → length text ≡ 0
+    → true ≡ hopeful (editionWith table edition) text
+unfolding hopeful normalForm normalPlaced replacedFrom compose labels grows tries anyOf leftmost first labelRows hyphenEdge beginsWithHyphen endsWithHyphen short long hyphenPair pretends bareDot isJapanese middleDot hyphen editionWith jaChar kindWith kinds stretch kindAmong kindBy anyKind within
+nothing-yet table edition [] k h = rw k
+nothing-yet table edition (x ∷ xs) k h = absurd (omega arith)
 
 module _ (P : Permits) (shorts : ShortMiddles P) where
   -- what 2 to 4 refuse, but for a text with nothing in it yet, has no hope
   no-front : (text : List ℕ) → 1 ≤ length text → hopeful P text ≡ true → Clear (frontRows P text)
   unfolding hopeful
   no-front text some e =
-      let k = both (not (anyOf (unfit P) (normalForm text))) _ e in
+      let k = both (not (anyOf (unfit P) (normalForm text))) _ (both (P .known) _ e .1) in
       let few : length text ≤ 256 =
       ⊎-elim (λ g. clash e (unfold hopeful in past-hope P shorts text g)) (λ g. g) (lt-or-le 256 (length text)) in
       front-clear P text (record { some = some; few = few; fit = not-true (anyOf (unfit P) (normalForm text)) (k .0) })
@@ -136,8 +141,10 @@ module _ (P : Permits) (shorts : ShortMiddles P) where
   no-hope {text} T some h =
       sym (refuted (hopeful P text) (λ e. h (ap (λ (x : Answer). x .number) (sym (T .answer) ∙ clear (frontRows P text) (no-front text (omega arith) e)))))
 
-  pub front-hope : {text before after : List ℕ} {n : ℕ} {b : Bool} (T : Told P text before after accepted n) → b ≡ grows P (labels (take (n - 0) (drop 0 after))) → b ≡ hopeful P text
+  pub front-hope : P .known ≡ true → {text before after : List ℕ} {n : ℕ} {b : Bool} (T : Told P text before after accepted n) → b ≡ grows P (labels (take (n - 0) (drop 0 after))) → b ≡ hopeful P text
   unfolding hopeful
-  front-hope {text} T q =
+  front-hope there-is {text} T q =
       let fit = clear-front P text (front-cleared P text (ap (λ (a : Answer). a .number) (T .answer))) .fit in
-      q ∙ rw (told-form P T, fit)
+      let form = normalForm text in
+      q ∙ ap (λ (l : List ℕ). grows P (labels l)) (told-form P T)
+      ∙ sym (ap (λ (b : Bool). b && (not (anyOf (unfit P) form) && grows P (labels form))) there-is ∙ ap (λ (b : Bool). not b && grows P (labels form)) fit)

@@ -14,14 +14,14 @@ use Rattle.lists.specs.declared.Answer.{Answer}
 use Rattle.lists.proofs.Laws.{clash, all-not, same-refl}
 use Rattle.lists.proofs.Tables.{clear, gave-front}
 use Rattle.characters.specs.KanjiBits.{kanjiBits}
-use Rattle.characters.specs.Characters.{alnum, hyphen, asciiSet, kinds, signs, stretch, kindAmong, kindBy, anyKind, kanjiWith, kindWith}
+use Rattle.characters.specs.Characters.{alnum, hyphen, asciiSet, kinds, signs, signsIn, stretch, kindAmong, kindBy, anyKind, kanjiWith, kindWith}
 use Rattle.characters.proofs.Bounds.{with-bounds}
 use Rattle.normal.specs.Normal.{normalForm}
 use Rattle.rules.specs.Labels.{labels}
 use Rattle.rules.specs.Permits.{Permits, InStretch, ShortMiddles, Laws, jaChar, labelChar, isEmpty}
 use Rattle.rules.specs.Rules.{ofName, jp, textRows, verdict, rules, rulesBut}
 use Rattle.rules.specs.Pretends.{seemsEncoded, PlainMiddles}
-use Rattle.rules.specs.Editions.{today, todayWith}
+use Rattle.rules.specs.Editions.{editionOf, editionWith, today}
 use Rattle.rules.specs.declared.Class.{Class}
 use Rattle.rules.specs.declared.Class.the-variants.{General}
 use Rattle.rules.specs.declared.Verdict.{Verdict}
@@ -29,7 +29,7 @@ use Rattle.rules.proofs.ByName.{clear-text, text-cleared}
 use Rattle.rules.proofs.Cuts.{labels-fit}
 use Rattle.rules.proofs.Derived.{of-middle}
 use Rattle.rules.proofs.Pretends.{honest-plain}
-use Rattle.rules.proofs.Today.{today-laws, today-plain, lending, lent-plain}
+use Rattle.rules.proofs.Editions.{edition-stretch, edition-short, edition-plain, lending, lent-plain}
 use Rattle.ascii.specs.Ascii.{asciiForm, inForm, OneForm}
 use Rattle.ascii.specs.Examples.{kana, encoded}
 use Rattle.ascii.proofs.OneForm.{Unmistaken, form-ascii}
@@ -107,17 +107,25 @@ OneWritten P = (s t before after before′ after′ : List ℕ) (r q : AsciiForm
 pub one-written : (P : Permits) → PlainMiddles P → OneWritten P
 one-written P plain s t before after before′ after′ r q a b y z = rw (octets P a y, octets P b z) (one-form P plain s t (gave P a y) (gave P b z))
 
--- ---- at the edition in force
+-- ---- within each edition, and at the one in force
+
+module _ (e : ℕ) where
+  pub one-form-edition : (s t : List ℕ) → rules (editionOf e) s .number ≡ 0 → rules (editionOf e) t .number ≡ 0
+      → OneForm (editionOf e) (normalForm s) (normalForm t)
+  one-form-edition = one-form-accepted (editionOf e) (edition-plain e) (edition-stretch e) (edition-short e)
+
+  pub one-written-edition : OneWritten (editionOf e)
+  one-written-edition = one-written (editionOf e) (edition-plain e)
 
 pub one-form-today : (s t : List ℕ) → rules today s .number ≡ 0 → rules today t .number ≡ 0 → OneForm today (normalForm s) (normalForm t)
-one-form-today = one-form-accepted today today-plain (today-laws .stretch) (today-laws .middle-short)
+one-form-today = one-form-edition 4
 
 pub one-written-today : OneWritten today
-one-written-today = one-written today today-plain
+one-written-today = one-written-edition 4
 
--- and of two calls that are lent one table of kanji, whatever it holds
-pub one-written-lent : (table : List ℕ) → OneWritten (todayWith table)
-one-written-lent table = one-written (todayWith table) (lent-plain table)
+-- and of two calls that are lent one table of kanji, whatever it holds, within one edition
+pub one-written-lent : (table : List ℕ) (e : ℕ) → OneWritten (editionWith table e)
+one-written-lent table e = one-written (editionWith table e) (lent-plain table e)
 
 -- ---- what it needs
 
@@ -132,7 +140,7 @@ breaks {s = s} {t = t} S all =
     clash (same-refl (normalForm t)) (ap (λ (x : List ℕ). same x (normalForm t)) (sym e) ∙ S .apart)
 
 pub shared-today : Share (rulesBut 17) today General (general encoded) (general kana)
-shared-today = lending (λ (P : Permits). Share (rulesBut 17) P General (general encoded) (general kana)) refl shared
+shared-today = lending (λ (P : Permits). Share (rulesBut 17) P General (general encoded) (general kana)) 4 refl shared
 
 -- so it needs rule 17
 pub needs-17 : TellsApart (rulesBut 17) today → ⊥
@@ -140,9 +148,10 @@ needs-17 = breaks shared-today
 
 -- and, of an edition that keeps all other laws, that no prefecture label seems encoded
 pub twins-laws : Laws twins
-unfolding within allOf anyOf elem alnum hyphen asciiSet kinds signs stretch kindAmong kindBy anyKind kanjiWith kindWith jaChar labelChar isEmpty twins
+unfolding within allOf anyOf elem alnum hyphen asciiSet kinds signs signsIn stretch kindAmong kindBy anyKind kanjiWith kindWith jaChar labelChar isEmpty twins
 twins-laws = record {
-  stretch = λ c e. with-bounds kanjiBits c e;
+  there-is = refl;
+  stretch = λ c e. with-bounds kanjiBits 4 c e;
   middle-chars = refl;
   middle-filled = refl;
   middle-short = refl;

@@ -26,7 +26,7 @@ use Rattle.rules.specs.Rules.{labelRows, nameRows, frontRows, textRows, classOf
 use Rattle.rules.specs.declared.Class.the-variants.{None}
 use Rattle.rules.proofs.ByName.{clear-text, text-cleared}
 use Rattle.rules.proofs.Places.{cuts-back, absent-zero}
-use Rattle.rules.proofs.Today.{lending}
+use Rattle.rules.proofs.Editions.{lending}
 use Rattle.fronts.specs.Fronts.{shown, padded}
 use Rattle.fronts.proofs.Shown.{shown-full}
 use Rattle.names.specs.Calls.{judged, checkRows, Checks}
@@ -119,4 +119,4 @@ module _ (P : Permits) (text : List ℕ) where
 -- ---- the tried texts, at the edition in force
 
 pub placed-today : AsPlaced today
-placed-today = lending AsPlaced {table = kanjiBits} refl as-placed
+placed-today = lending AsPlaced 4 {table = kanjiBits} refl as-placed

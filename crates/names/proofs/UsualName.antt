@@ -20,13 +20,14 @@ use Rattle.lists.proofs.Pieces.{then}
 use Rattle.characters.specs.Characters.{alnum, hyphen, asciiSet, kinds, signs, stretch, kindAmong, kindBy, anyKind, kanjiWith, kindWith}
 use Rattle.characters.specs.Replace.{ranges, rangeIn, isHalf, replaceIn, replace}
 use Rattle.characters.proofs.Classes.{stays, ascii-stays}
+use Rattle.characters.proofs.OneKind.{sign-is}
 use Rattle.normal.specs.Normal.{normalForm}
 use Rattle.normal.proofs.Unchanged.{unchanged, unchanged-by, unchanged-form}
 use Rattle.rules.specs.Labels.{period, intoFirst, labels, join}
 use Rattle.rules.specs.Permits.{Permits, InStretch, ShortMiddles, jaChar, labelChar, isEmpty}
 use Rattle.rules.specs.Rules.{unfit, isJapanese, ofName, labelRows, jp, textRows, classOf, verdict, byLabels, rules, accepted, refused}
 use Rattle.rules.specs.Kinds.{anyFound}
-use Rattle.rules.specs.Editions.{todayWith}
+use Rattle.rules.specs.Editions.{editionWith}
 use Rattle.rules.specs.declared.Class.the-variants.{General}
 use Rattle.rules.specs.declared.Kinds.{Kinds}
 use Rattle.rules.specs.declared.Verdict.{Verdict}
@@ -38,7 +39,7 @@ use Rattle.rules.proofs.Steps.{front-0, text-on, name-left, name-0}
 use Rattle.labels.specs.Known.{knownRows}
 use Rattle.labels.specs.Held.{heldIn}
 use Rattle.labels.specs.declared.Held.{Held}
-use Rattle.labels.proofs.OfLabel.{rows-are}
+use Rattle.labels.proofs.OfLabel.{lent-dot, rows-are}
 use Rattle.labels.proofs.Holding.{any-found}
 use Rattle.ascii.specs.Ascii.{asciiLabel, asciiForm, uncoded, writable}
 use Rattle.ascii.proofs.OfNames.{label-size}
@@ -53,15 +54,15 @@ use Rattle.names.proofs.OfName.{two-filled}
 
 -- ---- what a label may hold
 
--- the two marks are not among it and the middle dot is Japanese, whatever table is lent
+-- the two marks are not among it and the middle dot is Japanese, whatever table is lent, in every edition
 pub record Marks (P : Permits) : Type 0 where
   pub voiced : labelChar P 0x309B ≡ false
   pub half-voiced : labelChar P 0x309C ≡ false
   pub dot : jaChar P 0x30FB ≡ true
 
-pub lent-marks : (table : List ℕ) → Marks (todayWith table)
-unfolding jaChar labelChar todayWith kindWith kinds stretch kindAmong kindBy anyKind kanjiWith elem anyOf signs asciiSet alnum hyphen within
-lent-marks table = record { voiced = refl; half-voiced = refl; dot = refl }
+pub lent-marks : (table : List ℕ) (edition : ℕ) → Marks (editionWith table edition)
+unfolding jaChar labelChar editionWith kindWith kinds stretch kindAmong kindBy anyKind kanjiWith elem anyOf signs asciiSet alnum hyphen within
+lent-marks table edition = record { voiced = rw (sign-is edition 0x309B); half-voiced = rw (sign-is edition 0x309C); dot = lent-dot table edition }
 
 module _ (P : Permits) (stretch : InStretch P) where
   jp-fits : allOf (labelChar P) jp ≡ true
@@ -137,13 +138,13 @@ module _ (text : List ℕ) where
         let z : length text - 3 - 0 ≡ length text - 3 = omega arith in
         rw (z, ← same-is (drop (length text - 3) text) dotJp (ending .1)) (take-append-drop (length text - 3) text)
 
-    pub usual-label : (P : Permits) {h : Held} → h ≡ heldIn P before-jp → h .fit ≡ true → UsualLabel P before-jp (h .kinds)
+    pub usual-label : (P : Permits) → P .known ≡ true → {h : Held} → h ≡ heldIn P before-jp → h .fit ≡ true → UsualLabel P before-jp (h .kinds)
     unfolding jp heldIn
-    usual-label P {h} q a =
+    usual-label P there-is {h} q a =
         let s = ending-sizes in
         let n : length before-jp + 3 ≡ length text = sym (length-append before-jp dotJp) ∙ ap length the-two in
         let fits = sym (ap (λ (x : Held). x .fit) q) ∙ a in
-        record { fit = fits; found = ap (λ (x : Held). x .kinds) q ∙ rw fits; some = omega arith; few = omega arith }
+        record { there-is = there-is; fit = fits; found = ap (λ (x : Held). x .kinds) q ∙ rw fits; some = omega arith; few = omega arith }
 
     -- what is said of the two is said of the text
     pub as-text : (P : Permits) {before after : List ℕ} {r : AsciiForm} → AsciiForms P (before-jp ++ dotJp) before after r → AsciiForms P text before after r
@@ -180,7 +181,7 @@ module _ (P : Permits) (stretch : InStretch P) (shorts : ShortMiddles P) (marks 
   unfolding jp
   ruled =
       let n = length-append label dotJp in
-      text-on P text (front-0 P text (λ z. omega (arith, w .some)) (omega (arith, w .few)) all-fit) refl ∙ ap (byLabels P) labels-are
+      text-on P text (front-0 P text (λ z. omega (arith, w .some)) (omega (arith, w .few)) all-fit) (w .there-is) refl ∙ ap (byLabels P) labels-are
 
   filled : anyOf isEmpty (label ∷ jp ∷ []) ≡ false
   unfolding jp

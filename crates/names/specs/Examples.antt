@@ -4,9 +4,10 @@ use mathlib.Core.Path.{_≡_, refl}
 use mathlib.Core.List.{List, [], _∷_, _++_, map}
 use Prim.Native.Nat.{ℕ}
 use lib.ListN.{replicate}
+use Rattle.lists.specs.Tests.{within}
 use Rattle.lists.specs.Rows.{Row, first}
 use Rattle.rules.specs.Rules.{frontRows, textRows}
-use Rattle.rules.specs.Editions.{today}
+use Rattle.rules.specs.Editions.{editionOf, today}
 use Rattle.names.specs.Calls.{checkRows, asciiRows}
 
 -- the number that is given first, for each of the two texts: with too little room, and with enough
@@ -18,5 +19,5 @@ numbers rows little enough =
 -- of the check, and of the whole ASCII form
 pub room-first : numbers (checkRows today) 255 256 ++ numbers (asciiRows today) 191 192
     ≡ (1 ∷ 2 ∷ 1 ∷ 3 ∷ []) ++ (1 ∷ 2 ∷ 1 ∷ 3 ∷ [])
-unfolding checkRows asciiRows textRows frontRows first
+unfolding checkRows asciiRows textRows frontRows first editionOf within
 room-first = refl

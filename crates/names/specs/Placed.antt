@@ -4,7 +4,7 @@ use mathlib.Core.List.{List, [], _∷_, map}
 use Prim.Native.Nat.{ℕ}
 use Rattle.lists.specs.Rows.{first}
 use Rattle.lists.specs.Tests.{within, allOf, anyOf, indexOf, elem, same}
-use Rattle.characters.specs.Characters.{alnum, hyphen, asciiSet, kinds, signs, stretch, kindAmong, kindBy, anyKind}
+use Rattle.characters.specs.Characters.{alnum, hyphen, asciiSet, kinds, signs, signsIn, stretch, kindAmong, kindBy, anyKind}
 use Rattle.characters.specs.Characters.{kanjiWith, kindWith}
 use Rattle.characters.specs.Compose.{voiced, repeats, halfVoiced, eitherKana, composed}
 use Rattle.characters.specs.KanjiBits.{kanjiBits}
@@ -16,8 +16,8 @@ use Rattle.rules.specs.Places.{startsFrom, firstThree, labelPlaces, noPlaces, p
 use Rattle.rules.specs.Rules.{unfit, middleDot, ordinary, isJapanese, beginsWithHyphen, endsWithHyphen, hyphenEdge}
 use Rattle.rules.specs.Rules.{short, long, hyphenPair, pretends, bareDot, labelRows, jp, nameRows, frontRows, textRows}
 use Rattle.rules.specs.Rules.{classOf, verdict, rules}
-use Rattle.rules.specs.Prefectures.{prefectures}
-use Rattle.rules.specs.Editions.{todayWith}
+use Rattle.rules.specs.Prefectures.{latinPrefectures, japanesePrefectures, prefectures}
+use Rattle.rules.specs.Editions.{middlesIn, editionWith, todayWith}
 use Rattle.rules.specs.declared.LabelPlaces.{LabelPlaces}
 use Rattle.names.specs.Calls.{judged}
 
@@ -56,10 +56,10 @@ AsPlaced P = map (λ (p : Placed). judged P (p .text) .labels) placedTexts ≡ m
 
 -- by the bits of the kanji; of the edition in force it is `placed-today` (proofs/Placing)
 pub as-placed : AsPlaced (todayWith kanjiBits)
-unfolding within allOf anyOf indexOf elem same first alnum hyphen asciiSet kinds signs stretch kindAmong kindBy
+unfolding within allOf anyOf indexOf elem same first alnum hyphen asciiSet kinds signs signsIn stretch kindAmong kindBy
     anyKind kanjiWith kindWith voiced repeats halfVoiced eitherKana composed ranges rangeIn halfKana isHalf replaceIn
     replace replacedFrom compose normalPlaced normalForm places period intoFirst labels jaChar labelChar middle isEmpty
     unfit middleDot ordinary isJapanese beginsWithHyphen endsWithHyphen hyphenEdge short long hyphenPair pretends
-    bareDot labelRows jp nameRows frontRows textRows classOf verdict rules prefectures kanjiBits todayWith startsFrom
+    bareDot labelRows jp nameRows frontRows textRows classOf verdict rules latinPrefectures japanesePrefectures prefectures kanjiBits middlesIn editionWith startsFrom
     firstThree labelPlaces placesSaid judged placedTexts
 as-placed = refl

@@ -8,7 +8,7 @@ use Prim.Native.Nat.{ℕ}
 use Rattle.lists.specs.Tests.{within, allOf, anyOf, indexOf, elem, same}
 use Rattle.lists.specs.Rows.{first, without}
 use Rattle.characters.specs.KanjiBits.{kanjiBits}
-use Rattle.characters.specs.Characters.{alnum, hyphen, asciiSet, kinds, signs, stretch, kindAmong, kindBy, anyKind}
+use Rattle.characters.specs.Characters.{alnum, hyphen, asciiSet, kinds, signs, signsIn, stretch, kindAmong, kindBy, anyKind}
 use Rattle.characters.specs.Characters.{kanjiWith, kindWith}
 use Rattle.characters.specs.Replace.{ranges, rangeIn, halfKana, isHalf, replaceIn, replace}
 use Rattle.characters.specs.Compose.{voiced, repeats, halfVoiced, eitherKana, composed}
@@ -18,8 +18,8 @@ use Rattle.rules.specs.Permits.{Permits, jaChar, labelChar, middle, isEmpty}
 use Rattle.rules.specs.Rules.{unfit, middleDot, ordinary, isJapanese, beginsWithHyphen, endsWithHyphen, hyphenEdge}
 use Rattle.rules.specs.Rules.{short, long, hyphenPair, pretends, bareDot, labelRows, jp, nameRows, frontRows, textRows}
 use Rattle.rules.specs.Rules.{classOf, verdict, rules, rulesBut, accepted}
-use Rattle.rules.specs.Prefectures.{prefectures}
-use Rattle.rules.specs.Editions.{todayWith}
+use Rattle.rules.specs.Prefectures.{latinPrefectures, japanesePrefectures, prefectures}
+use Rattle.rules.specs.Editions.{middlesIn, editionWith, todayWith}
 use Rattle.rules.specs.declared.Class.{Class}
 use Rattle.rules.specs.declared.Class.the-variants.{General, Prefecture}
 use Rattle.rules.specs.declared.Verdict.{Verdict}
@@ -46,12 +46,12 @@ prefecture m = join ((0x61 ∷ 0x62 ∷ 0x63 ∷ []) ∷ m ∷ jp ∷ [])
 -- xn--l8j.jp and 3042 .jp, without row 17; computed by the bits of the kanji, of the edition in force it is
 -- `shared-today` (proofs/OneForm)
 pub shared : Share (rulesBut 17) (todayWith kanjiBits) General (general encoded) (general kana)
-unfolding within allOf anyOf indexOf elem same first without alnum hyphen asciiSet kinds signs stretch kindAmong
+unfolding within allOf anyOf indexOf elem same first without alnum hyphen asciiSet kinds signs signsIn stretch kindAmong
     kindBy anyKind kanjiWith kindWith ranges rangeIn halfKana isHalf replaceIn replace voiced repeats halfVoiced
     eitherKana composed replacedFrom compose normalPlaced normalForm places period intoFirst labels join jaChar
     labelChar middle isEmpty unfit middleDot ordinary isJapanese beginsWithHyphen endsWithHyphen hyphenEdge short long
-    hyphenPair pretends bareDot labelRows jp nameRows frontRows textRows classOf verdict rulesBut todayWith
-    prefectures asciiLabel asciiForm uncoded
+    hyphenPair pretends bareDot labelRows jp nameRows frontRows textRows classOf verdict rulesBut middlesIn editionWith
+    latinPrefectures japanesePrefectures prefectures asciiLabel asciiForm uncoded
 shared = record {
   one = refl;
   other = refl;
@@ -63,10 +63,10 @@ shared = record {
 
 -- an edition with these two as prefecture labels, and abc.xn--l8j.jp and abc. 3042 .jp, with row 17
 unfoldable pub twins : Permits
-twins = record { kind = kindWith kanjiBits; middles = encoded ∷ kana ∷ []; three = true }
+twins = record { known = true; kind = kindWith kanjiBits 4; middles = encoded ∷ kana ∷ []; three = true }
 
 pub shared-middles : Share rules twins Prefecture (prefecture encoded) (prefecture kana)
-unfolding within allOf anyOf indexOf elem same first alnum hyphen asciiSet kinds signs stretch kindAmong kindBy
+unfolding within allOf anyOf indexOf elem same first alnum hyphen asciiSet kinds signs signsIn stretch kindAmong kindBy
     anyKind kanjiWith kindWith ranges rangeIn halfKana isHalf replaceIn replace voiced repeats halfVoiced eitherKana
     composed replacedFrom compose normalPlaced normalForm places period intoFirst labels join jaChar labelChar middle
     isEmpty unfit middleDot ordinary isJapanese beginsWithHyphen endsWithHyphen hyphenEdge short long hyphenPair

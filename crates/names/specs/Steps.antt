@@ -85,8 +85,9 @@ pub record PutsOrKeeps (taken : Bool) (piece before after : List ℕ) (at : ℕ)
 
 -- ---- the usual name: a label that holds only what a label may, and ".jp"
 
--- one to which ".jp" can be put, and the kinds that are found in it
+-- one to which ".jp" can be put, and the kinds that are found in it, by an edition that there is
 pub record UsualLabel (P : Permits) (label : List ℕ) (kinds : Kinds) : Type 0 where
+  pub there-is : P .known ≡ true
   pub fit : allOf (labelChar P) label ≡ true
   pub found : kinds ≡ kindsIn P label
   pub some : 1 ≤ length label

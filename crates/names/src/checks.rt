@@ -7,7 +7,7 @@ use crate::places::label_places;
 use crate::places::no_places;
 use rules::Class;
 ghost use mathlib.Core.Path.{_≡_};
-ghost use Rattle.rules.specs.Editions.{today, todayWith};
+ghost use Rattle.rules.specs.Editions.{editionOf, editionWith};
 ghost use Rattle.names.specs.Calls.{Checks};
 ghost use Rattle.names.specs.Steps.{refusedCheck};
 
@@ -25,15 +25,15 @@ fn refused_check(number: u8, place: usize) -> Checked
     }
 }
 
-pub fn check_with(kanji: &[u32], text: &[u32], out: &mut [u32]) -> Checked
-    ensures { λ r. ⌜ Checks (todayWith (now (kanji .entry))) (now (text .entry)) (now (out .entry)) (now (out .exit)) r ⌝ }
+pub fn check_with(kanji: &[u32], edition: u32, text: &[u32], out: &mut [u32]) -> Checked
+    ensures { λ r. ⌜ Checks (editionWith (now (kanji .entry)) edition) (now (text .entry)) (now (out .entry)) (now (out .exit)) r ⌝ }
 {
     if out.len() < 256 {
         return refused_check(NO_ROOM, 0);
     }
     let mut form = [0u32; 256];
     let room: &mut [u32] = &mut form;
-    let ruled = judge_into(kanji, text, room);
+    let ruled = judge_into(kanji, edition, text, room);
     if ruled.number != ACCEPTED {
         return refused_check(ruled.number, ruled.place);
     }
@@ -51,10 +51,10 @@ pub fn check_with(kanji: &[u32], text: &[u32], out: &mut [u32]) -> Checked
     }
 }
 
-// The same by the kanji of this edition.
-pub fn check(text: &[u32], out: &mut [u32]) -> Checked
-    ensures { λ r. ⌜ Checks today (now (text .entry)) (now (out .entry)) (now (out .exit)) r ⌝ }
+// The same by the kanji themselves.
+pub fn check(edition: u32, text: &[u32], out: &mut [u32]) -> Checked
+    ensures { λ r. ⌜ Checks (editionOf edition) (now (text .entry)) (now (out .entry)) (now (out .exit)) r ⌝ }
 {
     let kanji = characters::kanji_bits();
-    check_with(&kanji, text, out)
+    check_with(&kanji, edition, text, out)
 }

@@ -14,7 +14,7 @@ ghost use mathlib.Core.Path.{_≡_};
 ghost use mathlib.Core.List.{_++_};
 ghost use Prim.Native.Nat.{_≤_};
 ghost use lib.ListN.{length};
-ghost use Rattle.rules.specs.Editions.{todayWith};
+ghost use Rattle.rules.specs.Editions.{editionWith};
 ghost use Rattle.names.specs.Calls.{AsciiForms};
 ghost use Rattle.names.specs.Steps.{UsualLabel, dotJp, endsInJp};
 
@@ -43,16 +43,22 @@ pub(crate) fn ends_in_jp(text: &[u32]) -> bool
 
 // The ASCII form of such a label, of which it is known what kinds it holds, and ".jp": of the rules only 7 to 10 and 17 can apply. Row 14 is
 // answered as the contract lists it, though it never comes (proofs/Coded).
-pub(crate) fn usual_name(kanji: &[u32], label: &[u32], kinds: Kinds, out: &mut [u8]) -> AsciiForm
-    requires { ⌜ UsualLabel (todayWith (now kanji)) (now label) kinds × (192 ≤ length (now out)) ⌝ }
-    ensures { λ r. ⌜ AsciiForms (todayWith (now (kanji .entry))) (now (label .entry) ++ dotJp) (now (out .entry)) (now (out .exit)) r ⌝ }
+pub(crate) fn usual_name(
+    kanji: &[u32],
+    edition: u32,
+    label: &[u32],
+    kinds: Kinds,
+    out: &mut [u8],
+) -> AsciiForm
+    requires { ⌜ UsualLabel (editionWith (now kanji) edition) (now label) kinds × (192 ≤ length (now out)) ⌝ }
+    ensures { λ r. ⌜ AsciiForms (editionWith (now (kanji .entry)) edition) (now (label .entry) ++ dotJp) (now (out .entry)) (now (out .exit)) r ⌝ }
 {
     let japanese = any_kind(kinds);
-    let rule = known_rule_with(kanji, label, japanese, LEAST, EVERY_PAIR, 0);
+    let rule = known_rule_with(kanji, edition, label, japanese, LEAST, EVERY_PAIR, 0);
     if rule.number != ACCEPTED {
         return refused_form(rule.number, rule.place);
     }
-    let put = put_label(kanji, label, out, 0);
+    let put = put_label(kanji, edition, label, out, 0);
     if !put.coded {
         return refused_form(OVER_63, 0);
     }

@@ -2,8 +2,10 @@
 // label. What the coder does is known by its stated answers alone.
 use crate::ACCEPTED;
 use crate::AsciiForm;
+use crate::NO_EDITION;
 use crate::NO_ROOM;
 use crate::OVER_63;
+use crate::editions::is_edition;
 use crate::judges::judge_into;
 use crate::usual::ends_in_jp;
 use crate::usual::usual_name;
@@ -18,7 +20,7 @@ ghost use mathlib.Core.List.{[]};
 ghost use Prim.Native.Nat.{_+_, _≤_};
 ghost use lib.ListN.{length, getD};
 ghost use Rattle.lists.specs.Tests.{anyOf};
-ghost use Rattle.rules.specs.Editions.{today, todayWith};
+ghost use Rattle.rules.specs.Editions.{editionOf, editionWith};
 ghost use Rattle.ascii.specs.Ascii.{asciiLabel, asciiForm, uncoded, writable};
 ghost use Rattle.rules.specs.Labels.{labels};
 ghost use Rattle.labels.specs.Held.{heldIn};
@@ -51,9 +53,15 @@ pub(crate) struct Put {
 }
 
 // Puts the ASCII form of a label from `at` on, where the coder takes the label.
-pub(crate) fn put_label(kanji: &[u32], label: &[u32], out: &mut [u8], at: usize) -> Put
-    requires { ⌜ (writable (todayWith (now kanji)) (now label) ≡ true) × (at + 63 ≤ length (now out)) ⌝ }
-    ensures { λ r. ⌜ PutsOrKeeps (not (uncoded (todayWith (now (kanji .entry))) (now (label .entry)))) (asciiLabel (todayWith (now (kanji .entry))) (now (label .entry))) (now (out .entry)) (now (out .exit)) at r ⌝ }
+pub(crate) fn put_label(
+    kanji: &[u32],
+    edition: u32,
+    label: &[u32],
+    out: &mut [u8],
+    at: usize,
+) -> Put
+    requires { ⌜ (writable (editionWith (now kanji) edition) (now label) ≡ true) × (at + 63 ≤ length (now out)) ⌝ }
+    ensures { λ r. ⌜ PutsOrKeeps (not (uncoded (editionWith (now (kanji .entry)) edition) (now (label .entry)))) (asciiLabel (editionWith (now (kanji .entry)) edition) (now (label .entry))) (now (out .entry)) (now (out .exit)) at r ⌝ }
 {
     let form = label_form(label, &mut out[at..]);
     let number = form.number;
@@ -67,15 +75,15 @@ pub(crate) fn put_label(kanji: &[u32], label: &[u32], out: &mut [u8], at: usize)
 }
 
 // Puts the ASCII form of a name, label by label, where the coder takes every label.
-fn put_labels(kanji: &[u32], form: &[u32], out: &mut [u8]) -> Put
-    requires { ⌜ Writable (todayWith (now kanji)) (now form) (length (now out)) ⌝ }
-    ensures { λ r. ⌜ PutsWhere (not (anyOf (uncoded (todayWith (now (kanji .entry)))) (labels (now (form .entry))))) (asciiForm (todayWith (now (kanji .entry))) (now (form .entry))) (now (out .entry)) (now (out .exit)) 0 r ⌝ }
+fn put_labels(kanji: &[u32], edition: u32, form: &[u32], out: &mut [u8]) -> Put
+    requires { ⌜ Writable (editionWith (now kanji) edition) (now form) (length (now out)) ⌝ }
+    ensures { λ r. ⌜ PutsWhere (not (anyOf (uncoded (editionWith (now (kanji .entry)) edition)) (labels (now (form .entry))))) (asciiForm (editionWith (now (kanji .entry)) edition) (now (form .entry))) (now (out .entry)) (now (out .exit)) 0 r ⌝ }
 {
     let mut from = 0;
     let mut at = 0;
     loop {
         let end = label_end(form, from);
-        let put = put_label(kanji, &form[from..end], out, at);
+        let put = put_label(kanji, edition, &form[from..end], out, at);
         if !put.coded {
             return put;
         }
@@ -90,35 +98,35 @@ fn put_labels(kanji: &[u32], form: &[u32], out: &mut [u8]) -> Put
 }
 
 // The kinds found in the leftmost label of a form that has passed the rules.
-fn leftmost_kinds(kanji: &[u32], form: &[u32]) -> Kinds
-    ensures { λ r. ⌜ r ≡ heldIn (todayWith (now (kanji .entry))) (getD (labels (now (form .entry))) 0 []) .kinds ⌝ }
+fn leftmost_kinds(kanji: &[u32], edition: u32, form: &[u32]) -> Kinds
+    ensures { λ r. ⌜ r ≡ heldIn (editionWith (now (kanji .entry)) edition) (getD (labels (now (form .entry))) 0 []) .kinds ⌝ }
 {
     let end = label_end(form, 0);
-    let held = held_with(kanji, &form[0..end]);
+    let held = held_with(kanji, edition, &form[0..end]);
     held.kinds
 }
 
 // The ASCII form of any text: its normal form is judged, put into octets and copied.
-fn any_name(kanji: &[u32], text: &[u32], out: &mut [u8]) -> AsciiForm
+fn any_name(kanji: &[u32], edition: u32, text: &[u32], out: &mut [u8]) -> AsciiForm
     requires { ⌜ 192 ≤ length (now out) ⌝ }
-    ensures { λ r. ⌜ AsciiForms (todayWith (now (kanji .entry))) (now (text .entry)) (now (out .entry)) (now (out .exit)) r ⌝ }
+    ensures { λ r. ⌜ AsciiForms (editionWith (now (kanji .entry)) edition) (now (text .entry)) (now (out .entry)) (now (out .exit)) r ⌝ }
 {
     let mut form = [0u32; 256];
-    let ruled = judge_into(kanji, text, &mut form);
+    let ruled = judge_into(kanji, edition, text, &mut form);
     if ruled.number != ACCEPTED {
         return refused_form(ruled.number, ruled.place);
     }
     let n = ruled.length;
     let buffer: &[u32] = &form;
     let mut ascii = [0u8; 192];
-    let put = put_labels(kanji, &buffer[0..n], &mut ascii);
+    let put = put_labels(kanji, edition, &buffer[0..n], &mut ascii);
     if !put.coded {
         return refused_form(OVER_63, 0);
     }
     let length = put.at;
     let octets: &[u8] = &ascii;
     bytes::copy(&octets[0..length], out);
-    let kinds = leftmost_kinds(kanji, &buffer[0..n]);
+    let kinds = leftmost_kinds(kanji, edition, &buffer[0..n]);
     let class = ruled.class;
     AsciiForm {
         number: ACCEPTED,
@@ -130,27 +138,31 @@ fn any_name(kanji: &[u32], text: &[u32], out: &mut [u8]) -> AsciiForm
 }
 
 // The usual name goes its own way.
-pub fn to_ascii_with(kanji: &[u32], text: &[u32], out: &mut [u8]) -> AsciiForm
-    ensures { λ r. ⌜ AsciiForms (todayWith (now (kanji .entry))) (now (text .entry)) (now (out .entry)) (now (out .exit)) r ⌝ }
+pub fn to_ascii_with(kanji: &[u32], edition: u32, text: &[u32], out: &mut [u8]) -> AsciiForm
+    ensures { λ r. ⌜ AsciiForms (editionWith (now (kanji .entry)) edition) (now (text .entry)) (now (out .entry)) (now (out .exit)) r ⌝ }
 {
     if out.len() < 192 {
         return refused_form(NO_ROOM, 0);
     }
+    let known = is_edition(edition);
+    if !known {
+        return refused_form(NO_EDITION, 0);
+    }
     if !ends_in_jp(text) {
-        return any_name(kanji, text, out);
+        return any_name(kanji, edition, text, out);
     }
     let n = text.len() - 3;
-    let held = held_with(kanji, &text[0..n]);
+    let held = held_with(kanji, edition, &text[0..n]);
     if !held.fit {
-        return any_name(kanji, text, out);
+        return any_name(kanji, edition, text, out);
     }
-    usual_name(kanji, &text[0..n], held.kinds, out)
+    usual_name(kanji, edition, &text[0..n], held.kinds, out)
 }
 
-// The same by the kanji of this edition.
-pub fn to_ascii(text: &[u32], out: &mut [u8]) -> AsciiForm
-    ensures { λ r. ⌜ AsciiForms today (now (text .entry)) (now (out .entry)) (now (out .exit)) r ⌝ }
+// The same by the kanji themselves.
+pub fn to_ascii(edition: u32, text: &[u32], out: &mut [u8]) -> AsciiForm
+    ensures { λ r. ⌜ AsciiForms (editionOf edition) (now (text .entry)) (now (out .entry)) (now (out .exit)) r ⌝ }
 {
     let kanji = characters::kanji_bits();
-    to_ascii_with(&kanji, text, out)
+    to_ascii_with(&kanji, edition, text, out)
 }

@@ -94,9 +94,10 @@ fn on_octets(
     }
 }
 
-// A call on a name. It is lent the table of kanji, or names its own.
+// A call on a name, by an edition. It is lent the table of kanji, or names its own.
 fn on_name(
     kanji: &[u32],
+    edition: u32,
     call: u8,
     own: bool,
     text: &[u32],
@@ -107,17 +108,18 @@ fn on_name(
     requires { ⌜ room ≤ 300 ⌝ }
 {
     match call {
-        b'A' | b'a' => named::to_ascii(kanji, own, text, room, out, o),
-        b'C' | b'c' => named::check(kanji, own, text, room, out, o),
-        b'J' | b'j' => named::judge(kanji, own, text, out, o),
-        b'L' | b'l' => streams::live_check(kanji, own, text, out, o),
+        b'A' | b'a' => named::to_ascii(kanji, edition, own, text, room, out, o),
+        b'C' | b'c' => named::check(kanji, edition, own, text, room, out, o),
+        b'J' | b'j' => named::judge(kanji, edition, own, text, out, o),
+        b'L' | b'l' => streams::live_check(kanji, edition, own, text, out, o),
         _ => named::reads(kanji, own, text, out, o),
     }
 }
 
-// A call on a host, likewise.
+// A call on a host, likewise; of the edition only the live check is told.
 fn on_host(
     kanji: &[u32],
+    edition: u32,
     call: u8,
     own: bool,
     text: &[u32],
@@ -130,28 +132,65 @@ fn on_host(
     match call {
         b'H' | b'h' => hosted::to_ascii(kanji, own, text, room, out, o),
         b'G' | b'g' => hosted::judge(kanji, own, text, out, o),
-        _ => hosted::live_check(kanji, own, text, out, o),
+        _ => hosted::live_check(kanji, edition, own, text, out, o),
+    }
+}
+
+// Does the call take an edition?
+fn takes_edition(call: u8) -> bool {
+    match call {
+        b'A' | b'C' | b'J' | b'L' | b'V' => true,
+        b'a' | b'c' | b'j' | b'l' | b'v' => true,
+        b'I' | b'K' | b'M' | b'Q' | b'R' => true,
+        _ => false,
     }
 }
 
 // The call of a case on its numbers. A letter in lower case is a call that names its own table.
-fn call(kanji: &[u32], call: u8, numbers: &[u32], room: usize, out: &mut [u8], o: usize) -> usize
+fn call(
+    kanji: &[u32],
+    edition: u32,
+    call: u8,
+    numbers: &[u32],
+    room: usize,
+    out: &mut [u8],
+    o: usize,
+) -> usize
     requires { ⌜ room ≤ 300 ⌝ }
     requires { ⌜ length (now numbers) ≤ 2000 ⌝ }
 {
     match call {
-        b'A' | b'C' | b'J' | b'L' | b'S' => on_name(kanji, call, false, numbers, room, out, o),
-        b'a' | b'c' | b'j' | b'l' | b's' => on_name(kanji, call, true, numbers, room, out, o),
-        b'G' | b'H' | b'V' => on_host(kanji, call, false, numbers, room, out, o),
-        b'g' | b'h' | b'v' => on_host(kanji, call, true, numbers, room, out, o),
+        b'A' | b'C' | b'J' | b'L' | b'S' => on_name(
+            kanji,
+            edition,
+            call,
+            false,
+            numbers,
+            room,
+            out,
+            o,
+        ),
+        b'a' | b'c' | b'j' | b'l' | b's' => on_name(
+            kanji,
+            edition,
+            call,
+            true,
+            numbers,
+            room,
+            out,
+            o,
+        ),
+        b'G' | b'H' | b'V' => on_host(kanji, edition, call, false, numbers, room, out, o),
+        b'g' | b'h' | b'v' => on_host(kanji, edition, call, true, numbers, room, out, o),
         b'B' | b'D' | b'F' | b'U' | b'W' => on_octets(kanji, call, numbers, room, out, o),
         b'E' => encode(numbers, room, out, o),
-        b'K' => kinds::kinds(kanji, numbers, out, o),
-        b'M' => streams::hope(kanji, numbers, out, o),
+        b'I' => printed::put_flag(out, o, names::is_edition(edition)),
+        b'K' => kinds::kinds(kanji, edition, numbers, out, o),
+        b'M' => streams::hope(kanji, edition, numbers, out, o),
         b'N' => normal_form(numbers, room, out, o),
         b'P' => slices::places(numbers, room, out, o),
-        b'Q' => label::one_label(kanji, numbers, room, out, o),
-        b'R' => hosted::front(kanji, numbers, room, out, o),
+        b'Q' => label::one_label(kanji, edition, numbers, room, out, o),
+        b'R' => hosted::front(kanji, edition, numbers, room, out, o),
         b'T' => slices::two_lists(numbers, room, out, o),
         b'X' => hosted::label_form(numbers, room, out, o),
         _ => printed::put_byte(out, o, b'?'),
@@ -165,6 +204,18 @@ pub(crate) fn answer(kanji: &[u32], line: &[u8], out: &mut [u8], from: usize) ->
     let mut numbers = [0u32; 2000];
     let case = cases::read(line, &mut numbers);
     let n = case.count;
-    let o = call(kanji, case.call, &numbers[0..n], case.room, out, from);
+    if case.written && !takes_edition(case.call) {
+        let o = printed::put_byte(out, from, b'?');
+        return printed::put_byte(out, o, b'\n');
+    }
+    let o = call(
+        kanji,
+        case.edition,
+        case.call,
+        &numbers[0..n],
+        case.room,
+        out,
+        from,
+    );
     printed::put_byte(out, o, b'\n')
 }

@@ -1,5 +1,7 @@
-// A case as a line says it: the call's letter, a space, a length in decimal, and then each number, in hexadecimal, with a space before
-// it. None is written with zeros in front. The length is the lent buffer's; a call that is lent none may take it for an index.
+// A case as a line says it: the call's letter, and an edition in decimal where one is asked for; a space, a length in decimal, and then each
+// number, in hexadecimal, with a space before it. None is written with zeros in front. The length is the lent buffer's; a call that is lent none
+// may take it for an index.
+use rules::IN_FORCE;
 ghost use mathlib.Core.Path.{_≡_};
 ghost use Prim.Native.Nat.{_≤_};
 ghost use lib.ListN.{length};
@@ -10,9 +12,12 @@ const LONGEST_CASE: usize = 4000;
 // No lent buffer has more entries.
 const ROOM: u32 = 300;
 
-// The call, the lent buffer's length, and how many numbers the line has. A line that is no case has the call 0.
+// The call, whether an edition is written and which is asked for, the lent buffer's length, and how many numbers the line has. A line that is
+// no case has the call 0.
 pub(crate) struct Case {
     pub(crate) call: u8,
+    pub(crate) written: bool,
+    pub(crate) edition: u32,
     pub(crate) room: usize,
     pub(crate) count: usize,
 }
@@ -134,9 +139,19 @@ fn malformed() -> Case
 {
     Case {
         call: 0,
+        written: false,
+        edition: IN_FORCE,
         room: 0,
         count: 0,
     }
+}
+
+// The edition that stands after the call's letter, and the one in force where none does.
+fn edition_of(s: &[u8]) -> Word {
+    if s.len() == 0 {
+        return Word::Number(IN_FORCE);
+    }
+    value(s, true)
 }
 
 // The case that s says, whose numbers are put at the start of `to`.
@@ -146,11 +161,16 @@ pub(crate) fn read(s: &[u8], to: &mut [u32]) -> Case
     if s.len() < 3 || s.len() > LONGEST_CASE {
         return malformed();
     }
-    if s[1] != b' ' {
+    let a = word_end(s, 1);
+    let Word::Number(edition) = edition_of(&s[1..a]) else {
+        return malformed();
+    };
+    if a >= s.len() {
         return malformed();
     }
-    let e = word_end(s, 2);
-    let Word::Number(room) = value(&s[2..e], true) else {
+    let b = a + 1;
+    let e = word_end(s, b);
+    let Word::Number(room) = value(&s[b..e], true) else {
         return malformed();
     };
     if room > ROOM {
@@ -162,6 +182,8 @@ pub(crate) fn read(s: &[u8], to: &mut [u32]) -> Case
     }
     Case {
         call: s[0],
+        written: 1 < a,
+        edition,
         room: room as usize,
         count: n.count,
     }

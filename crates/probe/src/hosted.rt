@@ -45,15 +45,16 @@ pub(crate) fn judge(kanji: &[u32], own: bool, text: &[u32], out: &mut [u8], o: u
     put_judged(out, o, hosts::judge_with(kanji, text))
 }
 
-// V, v: the live check, looked at as a host after the last code point.
+// V, v: the live check, looked at as a host after the last code point, whichever edition it was given.
 pub(crate) fn live_check(
     kanji: &[u32],
+    edition: u32,
     own: bool,
     text: &[u32],
     out: &mut [u8],
     o: usize,
 ) -> usize {
-    let state = streams::typed(text);
+    let state = streams::typed(edition, text);
     if own {
         return put_judged(out, o, state.look_host());
     }
@@ -73,13 +74,20 @@ pub(crate) fn label_form(label: &[u32], room: usize, out: &mut [u8], from: usize
 }
 
 // R: the normal form of a text, with a flag for an unfit character in it and the place of the first.
-pub(crate) fn front(kanji: &[u32], text: &[u32], room: usize, out: &mut [u8], from: usize) -> usize
+pub(crate) fn front(
+    kanji: &[u32],
+    edition: u32,
+    text: &[u32],
+    room: usize,
+    out: &mut [u8],
+    from: usize,
+) -> usize
     requires { ⌜ room ≤ 300 ⌝ }
 {
     let mut space = [0u32; 300];
     let buffer = &mut space[0..room];
     lent::fill_codes(buffer);
-    let r = fronts::front_with(kanji, text, buffer);
+    let r = fronts::front_with(kanji, edition, text, buffer);
     let mut o = printed::put_unclassed(out, from, r.number, r.place, r.length);
     o = printed::put_byte(out, o, b' ');
     o = printed::put_flag(out, o, r.unfit);

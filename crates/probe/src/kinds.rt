@@ -32,21 +32,25 @@ fn kind_letter(kind: characters::Kind) -> u8 {
 }
 
 // What a code point is: a flag for each call that says so, and its kind by either call.
-fn put_flags(kanji: &[u32], c: u32, out: &mut [u8], from: usize) -> usize {
+fn put_flags(kanji: &[u32], edition: u32, c: u32, out: &mut [u8], from: usize) -> usize {
     let mut o = put_flag(out, from, characters::is_alnum(c));
     o = put_flag(out, o, characters::is_ascii(c));
     o = put_flag(
         out,
         o,
-        characters::is_japanese(characters::kind_with(kanji, c)),
+        characters::is_japanese(characters::kind_with(kanji, edition, c)),
     );
-    o = put_byte(out, o, kind_letter(characters::kind_with(kanji, c)));
-    put_byte(out, o, kind_letter(characters::kind_of(c)))
+    o = put_byte(
+        out,
+        o,
+        kind_letter(characters::kind_with(kanji, edition, c)),
+    );
+    put_byte(out, o, kind_letter(characters::kind_of(edition, c)))
 }
 
 // All that is said of a code point, and what it and the next become.
-fn put_said(kanji: &[u32], c: u32, next: u32, out: &mut [u8], from: usize) -> usize {
-    let mut o = put_flags(kanji, c, out, from);
+fn put_said(kanji: &[u32], edition: u32, c: u32, next: u32, out: &mut [u8], from: usize) -> usize {
+    let mut o = put_flags(kanji, edition, c, out, from);
     o = put_byte(out, o, class_letter(c));
     o = put_byte(out, o, b' ');
     o = put_hex(out, o, characters::replaced(c));
@@ -66,12 +70,18 @@ fn after(numbers: &[u32], i: usize) -> u32
 }
 
 // K: what each number is.
-pub(crate) fn kinds(kanji: &[u32], numbers: &[u32], out: &mut [u8], from: usize) -> usize {
+pub(crate) fn kinds(
+    kanji: &[u32],
+    edition: u32,
+    numbers: &[u32],
+    out: &mut [u8],
+    from: usize,
+) -> usize {
     let mut o = from;
     let mut i: usize = 0;
     while i < numbers.len() {
         o = put_gap(out, o, i);
-        o = put_said(kanji, numbers[i], after(numbers, i), out, o);
+        o = put_said(kanji, edition, numbers[i], after(numbers, i), out, o);
         i += 1;
     }
     o

@@ -6,9 +6,9 @@ use crate::printed;
 // How many bytes of a batch are fed at once: fewer than a line has, so that lines are carried from piece to piece.
 const PIECE: usize = 7;
 
-// The state that the code points lead to, from the fresh one.
-pub(crate) fn typed(text: &[u32]) -> live::Live {
-    let mut state = live::Live::fresh();
+// The state that the code points lead to, from the fresh one of an edition.
+pub(crate) fn typed(edition: u32, text: &[u32]) -> live::Live {
+    let mut state = live::Live::fresh(edition);
     let mut i: usize = 0;
     while i < text.len() {
         state = state.step(text[i]);
@@ -57,12 +57,13 @@ pub(crate) fn put_judged(out: &mut [u8], from: usize, j: names::Judged) -> usize
 // L, l: the live check, looked at after the last code point, with the table of kanji lent or by its own.
 pub(crate) fn live_check(
     kanji: &[u32],
+    edition: u32,
     own: bool,
     text: &[u32],
     out: &mut [u8],
     o: usize,
 ) -> usize {
-    let state = typed(text);
+    let state = typed(edition, text);
     if own {
         return put_judged(out, o, state.look());
     }
@@ -70,8 +71,8 @@ pub(crate) fn live_check(
 }
 
 // A flag for what is typed so far, after each code point, from none on: may it yet become a name?
-fn put_hopes(kanji: &[u32], text: &[u32], out: &mut [u8], from: usize) -> usize {
-    let mut state = live::Live::fresh();
+fn put_hopes(kanji: &[u32], edition: u32, text: &[u32], out: &mut [u8], from: usize) -> usize {
+    let mut state = live::Live::fresh(edition);
     let mut o = printed::put_flag(out, from, state.may_become_with(kanji));
     let mut i: usize = 0;
     while i < text.len() {
@@ -83,12 +84,18 @@ fn put_hopes(kanji: &[u32], text: &[u32], out: &mut [u8], from: usize) -> usize 
 }
 
 // M: may it yet become a name? The live check after each code point; then the other calls that say so, on the whole text.
-pub(crate) fn hope(kanji: &[u32], text: &[u32], out: &mut [u8], from: usize) -> usize {
-    let o = put_hopes(kanji, text, out, from);
+pub(crate) fn hope(
+    kanji: &[u32],
+    edition: u32,
+    text: &[u32],
+    out: &mut [u8],
+    from: usize,
+) -> usize {
+    let o = put_hopes(kanji, edition, text, out, from);
     let p = printed::put_byte(out, o, b' ');
-    let q = printed::put_flag(out, p, names::may_become_with(kanji, text));
-    let r = printed::put_flag(out, q, names::may_become(text));
-    let state = typed(text);
+    let q = printed::put_flag(out, p, names::may_become_with(kanji, edition, text));
+    let r = printed::put_flag(out, q, names::may_become(edition, text));
+    let state = typed(edition, text);
     printed::put_flag(out, r, state.may_become())
 }
 

@@ -1,10 +1,11 @@
 // The second reader of labels, as document 004 is written: one rule stands after a letter, digit or Japanese character, the
-// other after a hyphen, each handing the rest of the label to the other. Each call takes any label and says yes or no of it. Its meaning is
-// defined in `rules` (specs/Reader), and that it agrees with the rules but for 17 is shown there (proofs/ReaderAgrees).
+// other after a hyphen, each handing the rest of the label to the other. Each call takes any label and says yes or no of it, by the edition in
+// force. Its meaning is defined in `rules` (specs/Reader), and that it agrees with the rules but for 17 is shown there (proofs/ReaderAgrees).
 use characters::is_japanese;
 use characters::kind_with;
 use labels::in_label_with;
 use labels::is_ordinary_with;
+use rules::IN_FORCE;
 use rules::Seen;
 ghost use mathlib.Core.Path.{_≡_};
 ghost use mathlib.Core.Bool.{_||_};
@@ -41,9 +42,9 @@ fn noted(kanji: &[u32], s: Seen, x: u32) -> Seen
     requires { ⌜ s .count < 63 ⌝ }
     ensures { λ r. ⌜ r ≡ note (todayWith (now (kanji .entry))) s x ⌝ }
 {
-    let ja = either(s.ja, is_japanese(kind_with(kanji, x)));
+    let ja = either(s.ja, is_japanese(kind_with(kanji, IN_FORCE, x)));
     let dot = either(s.dot, x == MIDDLE_DOT);
-    let ordinary = either(s.ordinary, is_ordinary_with(kanji, x));
+    let ordinary = either(s.ordinary, is_ordinary_with(kanji, IN_FORCE, x));
     Seen {
         count: s.count + 1,
         ja,
@@ -88,7 +89,7 @@ fn after_character(kanji: &[u32], label: &[u32], s: Seen) -> bool
     if x == HYPHEN {
         return after_hyphen(kanji, &label[1..], skipped(s));
     }
-    if in_label_with(kanji, x) {
+    if in_label_with(kanji, IN_FORCE, x) {
         return after_character(kanji, &label[1..], noted(kanji, s, x));
     }
     false
@@ -105,7 +106,7 @@ fn after_hyphen(kanji: &[u32], label: &[u32], s: Seen) -> bool
     if x == HYPHEN {
         return after_hyphen(kanji, &label[1..], skipped(s));
     }
-    if in_label_with(kanji, x) {
+    if in_label_with(kanji, IN_FORCE, x) {
         return after_character(kanji, &label[1..], noted(kanji, s, x));
     }
     false
@@ -126,7 +127,7 @@ pub fn reads_with(kanji: &[u32], label: &[u32]) -> bool
     if x == HYPHEN {
         return false;
     }
-    if in_label_with(kanji, x) {
+    if in_label_with(kanji, IN_FORCE, x) {
         let none = Seen {
             count: 0,
             ja: false,

@@ -17,9 +17,9 @@ use Rattle.rules.specs.Hopeful.{leftmost, grows, hopeful}
 use Rattle.rules.specs.Reader.{nothing, note, skip, afterCharacter, afterHyphen, reader}
 use Rattle.rules.specs.declared.Seen.{Seen}
 
-module _ (f g : ℕ → Kind) (same : (c : ℕ) → anyKind (f c) ≡ anyKind (g c)) (middles : List (List ℕ)) (three : Bool) where
+module _ (f g : ℕ → Kind) (same : (c : ℕ) → anyKind (f c) ≡ anyKind (g c)) (known : Bool) (middles : List (List ℕ)) (three : Bool) where
   abbrev by : (ℕ → Kind) → Permits
-  by k = record { kind = k; middles = middles; three = three }
+  by k = record { known = known; kind = k; middles = middles; three = three }
 
   same-japanese : jaChar (by f) ≡ jaChar (by g)
   unfolding jaChar

@@ -185,20 +185,20 @@ module _ (P : Permits) (text : List ℕ) where
   unfolding frontRows without
   front-but = refl
 
-  -- ---- 2 to 12 and 17, of a text
+  -- ---- 25, 2 to 12 and 17, of a text
 
   abbrev ls : List (List ℕ)
   ls = labels (normalForm text)
 
   pub clear-but : Clear (without 17 (textRows P text)) → FrontPassed P text × Passed P ls
-  unfolding textRows
+  unfolding textRows without
   clear-but c =
-      let k = split-but (frontRows P text) (nameRows P ls) c in
+      let k = split-but (frontRows P text) (nameRows P ls) (c .1) in
       (clear-front (rw front-but at (k .0)), clear-passed P ls (k .1))
 
-  pub but-clear : FrontPassed P text → Passed P ls → Clear (without 17 (textRows P text))
-  unfolding textRows
-  but-clear F N = join-but (frontRows P text) (nameRows P ls) (rw front-but (front-clear F)) (passed-clear P ls N)
+  pub but-clear : P .known ≡ true → FrontPassed P text → Passed P ls → Clear (without 17 (textRows P text))
+  unfolding textRows without
+  but-clear k F N = (ap not k, join-but (frontRows P text) (nameRows P ls) (rw front-but (front-clear F)) (passed-clear P ls N))
 
   pub clear-text : Clear (textRows P text) → FrontPassed P text × Passed P ls × Honest P ls
   unfolding textRows frontRows nameRows labelRows only
@@ -207,9 +207,14 @@ module _ (P : Permits) (text : List ℕ) where
       let b = clear-but (k .0) in
       (b .0, b .1, k .1 .0)
 
-  pub text-clear : FrontPassed P text → Passed P ls → Honest P ls → Clear (textRows P text)
+  pub text-clear : P .known ≡ true → FrontPassed P text → Passed P ls → Honest P ls → Clear (textRows P text)
   unfolding textRows frontRows nameRows labelRows only
-  text-clear F N h = whole-clear 17 (textRows P text) (but-clear F N) (h, tt)
+  text-clear k F N h = whole-clear 17 (textRows P text) (but-clear k F N) (h, tt)
+
+  -- there is such an edition
+  pub clear-known : Clear (textRows P text) → P .known ≡ true
+  unfolding textRows
+  clear-known c = not-false (P .known) (c .0)
 
   pub text-cleared : first (textRows P text) .number ≡ 0 → Clear (textRows P text)
   unfolding textRows frontRows nameRows labelRows refusing allOf

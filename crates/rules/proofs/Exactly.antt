@@ -4,15 +4,15 @@
 -- Assumes nothing.
 use mathlib.Core.Path.{_≡_, refl, sym, ap, _∙_}
 use mathlib.Core.Bool.{Bool, true, false, not, _||_}
-use mathlib.Core.List.{List, []}
+use mathlib.Core.List.{List, [], _∷_}
 use mathlib.Core.Logic.{_↔_}
 use Prim.Native.Nat.{ℕ}
 use native.Mathlib.Omega.{arith}
 use lib.Dec.{eqb}
 use lib.ListN.{length, getD}
-use borrow.Author.Tests.{eqb-true}
+use borrow.Author.Tests.{eqb-true, not-false}
 use Rattle.lists.specs.Tests.{pick, allOf}
-use Rattle.lists.specs.Rows.{Row, first, without, Clear}
+use Rattle.lists.specs.Rows.{Row, row, first, without, Clear}
 use Rattle.lists.specs.declared.Answer.{Answer}
 use Rattle.lists.proofs.Tables.{clear, clear-before, past-table, hit, of-rows, only, first-only, first-without, never-given}
 use Rattle.normal.proofs.Laws.{no-longer, not-twice}
@@ -120,14 +120,15 @@ module _ (P : Permits) (text : List ℕ) where
     unfolding rules verdict
     only-17 = (rw (given-17, at-0), left-pair .0, left-pair .1)
 
-    -- and none of 2 to 9 applies then
+    -- and none of 25 and 2 to 9 applies then
     pub after-9 : Reached P text × (hyphenEdge left ≡ false) × (short P 3 left ≡ false) × (long P left ≡ false)
     unfolding textRows frontRows allOf
     after-9 =
         let ls = labels (normalForm text) in
-        let f = past-table 17 (frontRows P text) (nameRows P ls) refl given-17 in
-        let c = past-9 P ls (sym (ap (λ (a : Answer). a .number) (clear-before (frontRows P text) (nameRows P ls) f)) ∙ given-17) in
-        (record { front = clear-front P text f; count = c .0; filled = c .1 }, c .2, c .3, c .4)
+        let before : List Row = row 25 (not (P .known)) 0 ∷ frontRows P text in
+        let f = past-table 17 before (nameRows P ls) refl given-17 in
+        let c = past-9 P ls (sym (ap (λ (a : Answer). a .number) (clear-before before (nameRows P ls) f)) ∙ given-17) in
+        (record { there-is = not-false (P .known) (f .0); front = clear-front P text (f .1); count = c .0; filled = c .1 }, c .2, c .3, c .4)
 
 -- no text is accepted as both
 pub not-both : (P : Permits) (text : List ℕ) → rules P text ≡ accepted General → rules P text ≡ accepted Prefecture → ⊥
@@ -157,7 +158,7 @@ module _ (P : Permits) (L : Laws P) where
       there e = let h = but-said P text k .0 e in rw (h .1) at (clear-derives text (h .0))
 
       back : Derives P k (normalForm text) → rulesBut 17 P text ≡ accepted k
-      back d = let N = named P L d in but-said P text k .1 (but-clear P text (front-passed text d) (N .passed), N .class)
+      back d = let N = named P L d in but-said P text k .1 (but-clear P text (L .there-is) (front-passed text d) (N .passed), N .class)
 
   -- ---- with 17: exactly where it is admitted
 
@@ -168,12 +169,12 @@ module _ (P : Permits) (L : Laws P) where
       there e =
           let h = accepted-said P text k .0 e in
           let c = clear-text P text (h .0) in
-          (rw (h .1) at (clear-derives text (but-clear P text (c .0) (c .1))), honest-name P L (c .2))
+          (rw (h .1) at (clear-derives text (but-clear P text (L .there-is) (c .0) (c .1))), honest-name P L (c .2))
 
       back : Admitted P k (normalForm text) → rules P text ≡ accepted k
       back (d, n) =
           let N = named P L d in
-          accepted-said P text k .1 (text-clear P text (front-passed text d) (N .passed) (honest-left P L d n), N .class)
+          accepted-said P text k .1 (text-clear P text (L .there-is) (front-passed text d) (N .passed) (honest-left P L d n), N .class)
 
   pub accepted-exactly : (text : List ℕ) (k : Class) → (rules P text ≡ accepted k) ↔ Granted P k text
   accepted-exactly text k = (λ e. granted (accepted-derives text k .0 e), λ G. accepted-derives text k .1 (G .name))

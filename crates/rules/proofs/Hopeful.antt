@@ -2,7 +2,7 @@
 -- labels that may grow (proofs/Begun); and what may grow is carried on to a name that is admitted (proofs/Grown).
 -- Assumes nothing.
 use mathlib.Core.Path.{_≡_, refl, sym, ap, _∙_}
-use mathlib.Core.Bool.{true, false, not}
+use mathlib.Core.Bool.{Bool, true, false, not, _&&_}
 use mathlib.Core.List.{List, [], _++_, append-assoc, append-nil}
 use mathlib.Core.Logic.{_↔_}
 use Prim.Native.Nat.{ℕ}
@@ -33,7 +33,7 @@ module _ (P : Permits) (H : HopeLaws P) where
     unfolding hopeful
     witness e =
         let form = normalForm text in
-        let h = both (not (anyOf (unfit P) form)) (grows P (labels form)) e in
+        let h = both (not (anyOf (unfit P) form)) (grows P (labels form)) (both (P .known) _ e .1) in
         let g : Grown P H form = rw (join-labels form) at (grown P H (labels form) (labels-fit P form (not-true (anyOf (unfit P) form) (h .0))) (h .1)) in
         let d : Admitted P (g .kind) (normalForm (text ++ g .more)) = rw (continued-unchanged text (g .more) (g .stays)) (g .admitted) in
         (g .more, ap (λ (v : Verdict). v .number) (accepted-derives P (H .laws) (text ++ g .more) (g .kind) .1 d))
@@ -42,7 +42,8 @@ module _ (P : Permits) (H : HopeLaws P) where
     unfolding hopeful
     admitted-hopeful r (d, h) =
         let n = neither (anyOf (unfit P) (normalForm text)) (anyOf (unfit P) r) (sym (any-append (unfit P) (normalForm text) r) ∙ named P (H .laws) d .fit) .0 in
-        rw (n, admitted-grows P H (normalForm text) r d h refl)
+        let g = admitted-grows P H (normalForm text) r d h refl in
+        ap (λ (b : Bool). b && (not (anyOf (unfit P) (normalForm text)) && grows P (labels (normalForm text)))) (H .laws .there-is) ∙ rw (n, g)
 
     from-form : {k : Class} {f g : List ℕ} → Continues f g → Admitted P k g → (r : List ℕ) × Admitted P k (f ++ r)
     from-form (apart f r) a = (r, a)

@@ -56,5 +56,5 @@ module _ (P : Permits) (short : ShortMiddles P) where
   unfolding hopeful
   past-hope text h = refuted (hopeful P text) (λ p.
       let form = normalForm text in
-      let g = both (not (anyOf (unfit P) form)) (grows P (labels form)) p in
+      let g = both (not (anyOf (unfit P) form)) (grows P (labels form)) (both (P .known) _ p .1) in
       omega (arith, ap length (join-labels form), grows-length (labels form) (g .1), not-twice text))

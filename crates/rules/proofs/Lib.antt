@@ -10,7 +10,7 @@ pub mod Pretends
 pub mod Exactly
 pub mod Hosts
 pub mod AnyKind
-pub mod Today
+pub mod Editions
 pub mod Steps
 pub mod Minus
 pub mod Growing

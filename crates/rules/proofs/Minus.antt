@@ -14,7 +14,7 @@ use borrow.Author.Tests.{eqb-true, eq-eqb, not-true}
 use Rattle.lists.specs.Tests.{pick, within, allOf, anyOf, indexOf}
 use Rattle.lists.specs.Rows.{first}
 use Rattle.lists.specs.declared.Answer.{Answer}
-use Rattle.lists.proofs.Laws.{or-left, or-right, refuted, clash, lt-or-le, any-append}
+use Rattle.lists.proofs.Laws.{or-left, or-right, by-test, refuted, clash, lt-or-le, any-append}
 use Rattle.lists.proofs.Scan.{found-inside, holds-there}
 use Rattle.lists.proofs.Tables.{hit, of-rows}
 use Rattle.characters.specs.Characters.{alnum, hyphen, asciiSet}
@@ -31,7 +31,7 @@ use Rattle.rules.specs.declared.Verdict.{Verdict}
 use Rattle.rules.proofs.ByName.{FrontPassed}
 use Rattle.rules.proofs.Cuts.{labels-cut}
 use Rattle.rules.proofs.Sound.{ends-snoc, ascii-range}
-use Rattle.rules.proofs.Steps.{front-2, front-3, front-4, front-0, text-front, text-on, name-left}
+use Rattle.rules.proofs.Steps.{front-2, front-3, front-4, front-0, text-25, text-front, text-on, name-left}
 
 -- ---- texts that are replaced alike are judged alike
 
@@ -121,8 +121,9 @@ ends-edge t c s n e =
     ap labels whole ∙ labels-cut (l ++ 0x2D ∷ []) (normalForm s) (any-append period l (0x2D ∷ []) ∙ rw n) in
     rw cut (or-right (beginsWithHyphen (l ++ 0x2D ∷ [])) _ (ends-snoc l 0x2D))
 
--- none of 2 to 6 applies
+-- none of 25 and 2 to 6 applies
 pub record Reached (P : Permits) (text : List ℕ) : Type 0 where
+  pub there-is : P .known ≡ true
   pub front : FrontPassed P text
   pub count : eqb (length (labels (normalForm text))) 2 || (P .three && eqb (length (labels (normalForm text))) 3) ≡ true
   pub filled : anyOf isEmpty (labels (normalForm text)) ≡ false
@@ -132,7 +133,7 @@ module _ (P : Permits) where
   unfolding labelRows
   reached-7 text R e =
       let F = R .front in
-      text-on P text (front-0 P text (λ z. omega (arith, F .some)) (F .few) (F .fit)) refl
+      text-on P text (front-0 P text (λ z. omega (arith, F .some)) (F .few) (F .fit)) (R .there-is) refl
       ∙ name-left P (labels (normalForm text)) (R .count) (R .filled) (sym (hit 7 _ 0 _ e)) (λ z. omega arith)
 
   pub minus-begins : (s : List ℕ) → Reached P (0x2212 ∷ s) → rules P (0x2212 ∷ s) ≡ refused 7 0
@@ -157,9 +158,15 @@ module _ (P : Permits) (t : List ℕ) where
       (not-true _ (of-rows (λ (a : Answer). not (eqb (a .number) 4)) refl (nameRows P (labels form)) refl))
 
   module _ (e : rules P t .number ≡ 4) where
-    -- so 2 to 4 refuse with no other number
+    -- so there is such an edition
+    there-is : P .known ≡ true
+    there-is =
+        by-test (λ b. P .known ≡ b → b ≡ true) (P .known) (λ p q. refl)
+        (λ p q. absurd (let z = ap (λ (v : Verdict). v .number) (text-25 P t q) in omega (arith, e))) refl
+
+    -- and 2 to 4 refuse with no other number
     no-other : {a : Answer} → first (frontRows P t) ≡ a → (a .number ≡ 0 → ⊥) → (a .number ≡ 4 → ⊥) → ⊥
-    no-other f n k = k (sym (ap (λ (v : Verdict). v .number) (text-front P t f n)) ∙ e)
+    no-other f n k = k (sym (ap (λ (v : Verdict). v .number) (text-front P t f there-is n)) ∙ e)
 
     four : (anyOf (unfit P) form ≡ true) × (rules P t .place ≡ getD (places t) (indexOf (unfit P) form) 0)
     unfolding verdict
@@ -170,8 +177,8 @@ module _ (P : Permits) (t : List ℕ) where
       where
         go : (length t ≡ 0 → ⊥) → length t ≤ 256 → (b : Bool) → anyOf (unfit P) form ≡ b
             → (anyOf (unfit P) form ≡ true) × (rules P t .place ≡ getD (places t) (indexOf (unfit P) form) 0)
-        go some few true q = (q, ap (λ (v : Verdict). v .place) (text-front P t (front-4 P t some few q) (λ z. omega arith)))
-        go some few false q = absurd (later (sym (ap (λ (v : Verdict). v .number) (text-on P t (front-0 P t some few q) refl)) ∙ e))
+        go some few true q = (q, ap (λ (v : Verdict). v .place) (text-front P t (front-4 P t some few q) there-is (λ z. omega arith)))
+        go some few false q = absurd (later (sym (ap (λ (v : Verdict). v .number) (text-on P t (front-0 P t some few q) there-is refl)) ∙ e))
 
   -- what comes of a character of the ASCII set is fit
   fit : {x y : ℕ} → Came x y → asciiSet x ≡ true → unfit P y ≡ false

@@ -107,16 +107,36 @@ module _ (P : Permits) (text : List ℕ) where
     pub front-0 : length text ≤ 256 → anyOf (unfit P) (normalForm text) ≡ false → first (frontRows P text) ≡ record { number = 0; place = 0 }
     front-0 few e = clear (frontRows P text) (front-clear P text (record { some = omega arith; few = few; fit = e }))
 
-  -- ---- what they refuse the rules refuse; else the rules say what 5 to 12 and 17 say of the labels
+  -- ---- by no edition all are refused
+
+  module _ (e : P .known ≡ false) where
+    pub first-25 : first (textRows P text) ≡ record { number = 25; place = 0 }
+    unfolding textRows
+    first-25 = hit 25 (not (P .known)) 0 _ (ap not e)
+
+    pub text-25 : rules P text ≡ refused 25 0
+    unfolding rules verdict
+    text-25 = ap (λ (x : Answer). verdict x (labels (normalForm text))) first-25
+
+  -- ---- by an edition what 2 to 4 refuse the rules refuse; else they say what 5 to 12 and 17 say of the labels
 
   module _ {a : Answer} (e : first (frontRows P text) ≡ a) where
-    pub text-front : (a .number ≡ 0 → ⊥) → rules P text ≡ refused (a .number) (a .place)
-    unfolding rules textRows verdict
-    text-front h = ap (λ (x : Answer). verdict x (labels (normalForm text))) (stands (frontRows P text) _ e h) ∙ rw (ne-eqb (a .number) 0 h)
+    module _ (there-is : P .known ≡ true) where
+      on-25 : {b : Answer} → first (frontRows P text ++ nameRows P (labels (normalForm text))) ≡ b → first (textRows P text) ≡ b
+      unfolding textRows
+      on-25 f = passed-over 25 _ 0 _ (ap not there-is) ∙ f
 
-    pub text-on : a .number ≡ 0 → rules P text ≡ byLabels P (labels (normalForm text))
-    unfolding rules textRows
-    text-on z = ap (λ (x : Answer). verdict x (labels (normalForm text))) (hands-on (frontRows P text) _ e (front-cleared P text) z)
+      pub first-front : (a .number ≡ 0 → ⊥) → first (textRows P text) ≡ a
+      first-front h = on-25 (stands (frontRows P text) _ e h)
+
+      pub text-front : (a .number ≡ 0 → ⊥) → rules P text ≡ refused (a .number) (a .place)
+      unfolding rules verdict
+      text-front h = ap (λ (x : Answer). verdict x (labels (normalForm text))) (first-front h) ∙ rw (ne-eqb (a .number) 0 h)
+
+      pub text-on : a .number ≡ 0 → rules P text ≡ byLabels P (labels (normalForm text))
+      unfolding rules
+      text-on z =
+          ap (λ (x : Answer). verdict x (labels (normalForm text))) (on-25 (hands-on (frontRows P text) _ e (front-cleared P text) z))
 
     -- and what they refuse is refused of a host
     pub host-front : (a .number ≡ 0 → ⊥) → first (hostTextRows P text) ≡ a

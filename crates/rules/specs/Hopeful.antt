@@ -49,11 +49,11 @@ grows P (l ∷ m ∷ []) = leftmost P l && (begins m jp || anyOf (begins m) (P .
 grows P (l ∷ m ∷ z ∷ []) = leftmost P l && (middle P m && begins z jp)
 grows P (l ∷ m ∷ z ∷ y ∷ ls) = false
 
--- no unfit character, and labels that may grow
+-- there is such an edition, no unfit character, and labels that may grow
 unfoldable pub hopeful : Permits → List ℕ → Bool
 hopeful P text =
     let form = normalForm text in
-    not (anyOf (unfit P) form) && grows P (labels form)
+    P .known && (not (anyOf (unfit P) form) && grows P (labels form))
 
 -- ---- what the theorem asks of an edition, beside the laws
 

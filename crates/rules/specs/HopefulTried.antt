@@ -8,7 +8,7 @@ use lib.ListN.{replicate}
 use Rattle.lists.specs.Tests.{within, allOf, anyOf, indexOf, elem, same}
 use Rattle.lists.specs.Rows.{first}
 use Rattle.characters.specs.KanjiBits.{kanjiBits}
-use Rattle.characters.specs.Characters.{alnum, hyphen, asciiSet, kinds, signs, stretch, kindAmong, kindBy, anyKind}
+use Rattle.characters.specs.Characters.{alnum, hyphen, asciiSet, kinds, signs, signsIn, stretch, kindAmong, kindBy, anyKind}
 use Rattle.characters.specs.Characters.{kanjiWith, kindWith}
 use Rattle.characters.specs.Replace.{ranges, rangeIn, halfKana, isHalf, replaceIn, replace}
 use Rattle.characters.specs.Compose.{voiced, repeats, halfVoiced, eitherKana, composed}
@@ -17,8 +17,8 @@ use Rattle.rules.specs.Labels.{period, intoFirst, labels}
 use Rattle.rules.specs.Permits.{Permits, jaChar, labelChar, middle, isEmpty}
 use Rattle.rules.specs.Rules.{unfit, middleDot, ordinary, isJapanese, beginsWithHyphen, endsWithHyphen}
 use Rattle.rules.specs.Rules.{hyphenEdge, short, long, hyphenPair, pretends, bareDot, labelRows, jp}
-use Rattle.rules.specs.Prefectures.{prefectures}
-use Rattle.rules.specs.Editions.{todayWith}
+use Rattle.rules.specs.Prefectures.{latinPrefectures, japanesePrefectures, prefectures}
+use Rattle.rules.specs.Editions.{middlesIn, editionWith, todayWith}
 use Rattle.rules.specs.Hopeful.{begins, leftmost, tries, grows, hopeful}
 
 abbrev says : Permits → List (List ℕ) → List Bool
@@ -95,9 +95,9 @@ abbrev pub Tells : Permits → Type 0
 Tells P = (says P yes ≡ replicate 19 true) × (says P no ≡ replicate 20 false)
 
 pub tried-hopeful : Tells (todayWith kanjiBits)
-unfolding within allOf anyOf indexOf elem same first alnum hyphen asciiSet kinds signs stretch kindAmong kindBy
+unfolding within allOf anyOf indexOf elem same first alnum hyphen asciiSet kinds signs signsIn stretch kindAmong kindBy
     anyKind kanjiWith kindWith ranges rangeIn halfKana isHalf replaceIn replace voiced repeats halfVoiced eitherKana
     composed replacedFrom compose normalPlaced normalForm places period intoFirst labels jaChar labelChar isEmpty
     unfit middleDot ordinary isJapanese beginsWithHyphen endsWithHyphen hyphenEdge short long hyphenPair pretends
-    bareDot labelRows jp prefectures middle todayWith begins leftmost tries grows hopeful
+    bareDot labelRows jp latinPrefectures japanesePrefectures prefectures middle middlesIn editionWith begins leftmost tries grows hopeful
 tried-hopeful = (refl, refl)

@@ -12,3 +12,4 @@ pub mod Editions
 pub mod Tried
 pub mod Hopeful
 pub mod HopefulTried
+pub mod EditionsTried

@@ -10,6 +10,8 @@ use Rattle.characters.specs.Characters.{asciiSet, anyKind}
 use Rattle.characters.specs.declared.Kind.{Kind}
 
 pub record Permits : Type 0 where
+  -- whether there is such an edition (document 02, K12): by one that there is not every text is refused, with 25
+  pub known : Bool
   -- which code points are Japanese characters, and of which kind each is (document 02, K6)
   pub kind : ℕ → Kind
   -- its prefecture labels
@@ -43,6 +45,7 @@ ShortMiddles P = allOf (λ (l : List ℕ). leb (length l) 15) (P .middles) ≡ t
 
 -- what the theorems ask of an edition
 pub record Laws (P : Permits) : Type 0 where
+  pub there-is : P .known ≡ true
   pub stretch : InStretch P
   -- each prefecture label holds only what a label may hold, is not empty, and is short: so that no derivable name is
   -- lost to the limit of 256 code points, and so that each can be encoded

@@ -1,9 +1,10 @@
--- The 94 prefecture labels of document 004, in its order, the Latin ones in lower case. Made by tables/make.
-use mathlib.Core.List.{List, [], _∷_}
+-- The 94 prefecture labels of document 004, in its order: the 47 Latin ones, in lower case, and the 47 Japanese ones.
+-- Made by tables/make.
+use mathlib.Core.List.{List, [], _∷_, _++_}
 use Prim.Native.Nat.{ℕ}
 
-unfoldable pub prefectures : List (List ℕ)
-prefectures =
+unfoldable pub latinPrefectures : List (List ℕ)
+latinPrefectures =
     (0x68 ∷ 0x6F ∷ 0x6B ∷ 0x6B ∷ 0x61 ∷ 0x69 ∷ 0x64 ∷ 0x6F ∷ []) ∷
     (0x61 ∷ 0x6F ∷ 0x6D ∷ 0x6F ∷ 0x72 ∷ 0x69 ∷ []) ∷
     (0x69 ∷ 0x77 ∷ 0x61 ∷ 0x74 ∷ 0x65 ∷ []) ∷
@@ -51,6 +52,10 @@ prefectures =
     (0x6D ∷ 0x69 ∷ 0x79 ∷ 0x61 ∷ 0x7A ∷ 0x61 ∷ 0x6B ∷ 0x69 ∷ []) ∷
     (0x6B ∷ 0x61 ∷ 0x67 ∷ 0x6F ∷ 0x73 ∷ 0x68 ∷ 0x69 ∷ 0x6D ∷ 0x61 ∷ []) ∷
     (0x6F ∷ 0x6B ∷ 0x69 ∷ 0x6E ∷ 0x61 ∷ 0x77 ∷ 0x61 ∷ []) ∷
+    []
+
+unfoldable pub japanesePrefectures : List (List ℕ)
+japanesePrefectures =
     (0x5317 ∷ 0x6D77 ∷ 0x9053 ∷ []) ∷
     (0x9752 ∷ 0x68EE ∷ []) ∷
     (0x5CA9 ∷ 0x624B ∷ []) ∷
@@ -99,3 +104,6 @@ prefectures =
     (0x9E7F ∷ 0x5150 ∷ 0x5CF6 ∷ []) ∷
     (0x6C96 ∷ 0x7E04 ∷ []) ∷
     []
+
+unfoldable pub prefectures : List (List ℕ)
+prefectures = latinPrefectures ++ japanesePrefectures

@@ -1,5 +1,5 @@
--- The rules of a name: document 01's table, 'Numbers a call may answer', 2 to 12, and 17 of document 02, K3, a row
--- each; the first that applies is given.
+-- The rules of a name: document 01's table, 'Numbers a call may answer', 2 to 12, with 17 of document 02, K3, and 25 of
+-- K12, a row each; the first that applies is given.
 use mathlib.Core.Bool.{Bool, true, false, not, _&&_, _||_}
 use mathlib.Core.List.{List, [], _∷_, _++_}
 use mathlib.Core.Logic.{_↔_}
@@ -143,9 +143,9 @@ frontRows P text =
     row 4 (anyOf (unfit P) form) (getD (places text) (indexOf (unfit P) form) 0) ∷
     []
 
--- 2 to 12 and 17
+-- 25 where there is no such edition (document 02, K12), then 2 to 12 and 17
 unfoldable pub textRows : Permits → List ℕ → List Row
-textRows P text = frontRows P text ++ nameRows P (labels (normalForm text))
+textRows P text = row 25 (not (P .known)) 0 ∷ (frontRows P text ++ nameRows P (labels (normalForm text)))
 
 -- ---- what is answered
 

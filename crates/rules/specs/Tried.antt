@@ -9,7 +9,7 @@ use lib.ListN.{replicate}
 use Rattle.lists.specs.Tests.{within, allOf, anyOf, indexOf, elem, same}
 use Rattle.lists.specs.Rows.{first, without}
 use Rattle.characters.specs.KanjiBits.{kanjiBits}
-use Rattle.characters.specs.Characters.{alnum, hyphen, asciiSet, kinds, signs, stretch, kindAmong, kindBy, anyKind}
+use Rattle.characters.specs.Characters.{alnum, hyphen, asciiSet, kinds, signs, signsIn, stretch, kindAmong, kindBy, anyKind}
 use Rattle.characters.specs.Characters.{kanjiWith, kindWith}
 use Rattle.characters.specs.Replace.{ranges, rangeIn, halfKana, isHalf, replaceIn, replace}
 use Rattle.characters.specs.Compose.{voiced, repeats, halfVoiced, eitherKana, composed}
@@ -19,8 +19,8 @@ use Rattle.rules.specs.Permits.{Permits, jaChar, labelChar, middle, isEm
 use Rattle.rules.specs.Rules.{unfit, middleDot, ordinary, isJapanese, beginsWithHyphen, endsWithHyphen}
 use Rattle.rules.specs.Rules.{hyphenEdge, short, long, hyphenPair, Asks, asks, pretends, bareDot, labelRows, jp}
 use Rattle.rules.specs.Rules.{nameRows, frontRows, textRows, classOf, verdict, rules, rulesBut, accepted, refused}
-use Rattle.rules.specs.Prefectures.{prefectures}
-use Rattle.rules.specs.Editions.{todayWith}
+use Rattle.rules.specs.Prefectures.{latinPrefectures, japanesePrefectures, prefectures}
+use Rattle.rules.specs.Editions.{middlesIn, editionWith, todayWith}
 use Rattle.rules.specs.declared.Class.{Class}
 use Rattle.rules.specs.declared.Verdict.{Verdict}
 use Rattle.rules.specs.declared.Class.the-variants.{General, Prefecture}
@@ -143,10 +143,10 @@ table =
     []
 
 pub tried : map (said (todayWith kanjiBits)) table ≡ map meant table
-unfolding within allOf anyOf indexOf elem same first without alnum hyphen asciiSet kinds signs stretch kindAmong
+unfolding within allOf anyOf indexOf elem same first without alnum hyphen asciiSet kinds signs signsIn stretch kindAmong
     kindBy anyKind kanjiWith kindWith ranges rangeIn halfKana isHalf replaceIn replace voiced repeats halfVoiced
     eitherKana composed replacedFrom compose normalPlaced normalForm places period intoFirst labels jaChar labelChar
     isEmpty unfit middleDot ordinary isJapanese beginsWithHyphen endsWithHyphen hyphenEdge short long hyphenPair
-    pretends bareDot labelRows jp nameRows frontRows textRows classOf verdict rules rulesBut prefectures middle
-    todayWith
+    pretends bareDot labelRows jp nameRows frontRows textRows classOf verdict rules rulesBut latinPrefectures japanesePrefectures prefectures middle
+    middlesIn editionWith
 tried = refl

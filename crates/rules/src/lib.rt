@@ -3,7 +3,10 @@
 // become a name. Beside them grammar and rules of a nameserver's host name, but for what needs the coder (specs/Hosts). Every
 // call that judges a name is a thin layer over `rules` (specs/Rules), and `may_become` over `hopeful` (specs/Hopeful). Which
 // kinds of Japanese characters a label holds stands in specs/Kinds, and where labels stand in a normal form in specs/Places.
-// It has no call of its own: only the types that the definitions and the calls share.
+// It has no call of its own: only the types that the definitions and the calls share, and the number of the edition in force.
+
+// The edition in force (specs/Editions).
+pub const IN_FORCE: u32 = 4;
 
 // General-use or prefecture with number 0, and none otherwise.
 pub enum Class {

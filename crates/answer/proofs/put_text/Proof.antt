@@ -40,7 +40,7 @@ returns c =
     let a = c .before .before .before .before .before .before .before .before .before .before .before .before .before .before .args in
     let p = c .before .before .before .before .before .before .before .before .before .before .before .before .before .before .pre in
     let t = c .before .before .before .before .before .before .before .before .to-ascii-with in
-    refused-puts (todayWith (a .kanji .now)) (a .id .now) (a .text .now) (a .out .now) (p .0) (p .1) (t .kept .1 .1 .0) (t .ensures) (c .before .before .before .before .if1 .taken) (c .before .before .put-refused .ensures)
+    refused-puts (todayWith (a .kanji .now)) (a .id .now) (a .text .now) (a .out .now) (p .0) (p .1) (t .kept .1 .1 .1 .0) (t .ensures) (c .before .before .before .before .if1 .taken) (c .before .before .put-refused .ensures)
 
 put-accepted-requires : tie.Need-put-accepted-requires
 put-accepted-requires c κs = search needs
@@ -50,14 +50,14 @@ add-put-end c =
     let a = c .before .before .before .before .before .before .before .before .before .before .before .before .before .before .before .before .args in
     let p = c .before .before .before .before .before .before .before .before .before .before .before .before .before .before .before .before .pre in
     let t = c .before .before .before .before .before .before .before .before .before .before .to-ascii-with in
-    omega (arith, before-length (a .id .now) (t .result .class), form-fits (todayWith (a .kanji .now)) (a .id .now) (a .text .now) (a .out .now) (p .0) (p .1) (t .kept .1 .1 .0) (t .ensures))
+    omega (arith, before-length (a .id .now) (t .result .class), form-fits (todayWith (a .kanji .now)) (a .id .now) (a .text .now) (a .out .now) (p .0) (p .1) (t .kept .1 .1 .1 .0) (t .ensures))
 
 put-end-requires : tie.Need-put-end-requires
 put-end-requires c κs =
     let a = c .before .before .before .before .before .before .before .before .before .before .before .before .before .before .before .before .args in
     let p = c .before .before .before .before .before .before .before .before .before .before .before .before .before .before .before .before .pre in
     let t = c .before .before .before .before .before .before .before .before .before .before .to-ascii-with in
-    omega (arith, before-length (a .id .now) (t .result .class), form-fits (todayWith (a .kanji .now)) (a .id .now) (a .text .now) (a .out .now) (p .0) (p .1) (t .kept .1 .1 .0) (t .ensures))
+    omega (arith, before-length (a .id .now) (t .result .class), form-fits (todayWith (a .kanji .now)) (a .id .now) (a .text .now) (a .out .now) (p .0) (p .1) (t .kept .1 .1 .1 .0) (t .ensures))
 
 same-length-2 : tie.Need-same-length-2
 same-length-2 c = search needs
@@ -67,7 +67,7 @@ returns-2 c =
     let a = c .before .before .before .before .before .before .before .before .before .before .before .before .before .before .before .before .before .before .before .args in
     let p = c .before .before .before .before .before .before .before .before .before .before .before .before .before .before .before .before .before .before .before .pre in
     let t = c .before .before .before .before .before .before .before .before .before .before .before .before .before .to-ascii-with in
-    accepted-puts (todayWith (a .kanji .now)) (a .id .now) (a .text .now) (a .out .now) (p .0) (p .1) (t .kept .1 .1 .0) (t .ensures) (c .before .before .before .before .before .before .before .before .before .if1 .left) (c .before .before .before .before .before .before .before .put-accepted .ensures) (c .before .before .put-end .ensures)
+    accepted-puts (todayWith (a .kanji .now)) (a .id .now) (a .text .now) (a .out .now) (p .0) (p .1) (t .kept .1 .1 .1 .0) (t .ensures) (c .before .before .before .before .before .before .before .before .before .if1 .left) (c .before .before .before .before .before .before .before .put-accepted .ensures) (c .before .before .put-end .ensures)
 
 pub put-text-spec : {M : Type 1} → statement M
 put-text-spec =

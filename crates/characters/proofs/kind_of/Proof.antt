@@ -15,7 +15,7 @@ kind-with-requires c κs = search needs
 
 returns : tie.Need-returns
 unfolding kanjiBits
-returns c = c .kind-with .ensures ∙ lent _
+returns c = c .kind-with .ensures ∙ lent _ _
 
 pub kind-of-spec : {M : Type 1} → statement M
 kind-of-spec = tie.close (tie.spec slice-aggregate-kind-with kind-with-requires returns)

@@ -11,7 +11,7 @@ is-kanji-requires : tie.Need-is-kanji-requires
 is-kanji-requires c κs = search needs
 
 returns : tie.Need-returns
-returns c = lent-kanji _ _ (sym (c .before .is-kanji .ensures) ∙ c .if1 .taken)
+returns c = lent-kanji _ _ _ (sym (c .before .is-kanji .ensures) ∙ c .if1 .taken)
 
 between-requires : tie.Need-between-requires
 between-requires c κs = search needs

@@ -7,16 +7,16 @@ use lib.ListN.{length, drop}
 use Rattle.lists.specs.Tests.{anyOf}
 use Rattle.lists.proofs.Scan.{any-here, any-on, any-end}
 use Rattle.rules.specs.Rules.{ordinary}
-use Rattle.rules.specs.Editions.{todayWith}
+use Rattle.rules.specs.Editions.{editionWith}
 use borrow.Author.Needs.{needs}
 use Rattle.labels.proofs.any_ordinary.Statement.{statement}
 use Rattle.labels.proofs.any_ordinary.Tie as tie
 
 abbrev Inv-loop : tie.InvT-loop
-Inv-loop kanji label i₀ i = (i ≤ length label) × (anyOf (ordinary (todayWith kanji)) label ≡ anyOf (ordinary (todayWith kanji)) (drop i label))
+Inv-loop kanji edition label i₀ i = (i ≤ length label) × (anyOf (ordinary (editionWith kanji edition)) label ≡ anyOf (ordinary (editionWith kanji edition)) (drop i label))
 
 abbrev μ-loop : tie.MeasureT-loop
-μ-loop kanji label i₀ i = length label - i
+μ-loop kanji edition label i₀ i = length label - i
 
 loop-holds : tie.Need-loop-holds Inv-loop μ-loop
 loop-holds c = search needs

@@ -7,16 +7,16 @@ use lib.ListN.{length, drop}
 use Rattle.lists.specs.Tests.{indexOf}
 use Rattle.lists.proofs.Scan.{first-here, first-on, first-end}
 use Rattle.rules.specs.Rules.{unfit}
-use Rattle.rules.specs.Editions.{todayWith}
+use Rattle.rules.specs.Editions.{editionWith}
 use borrow.Author.Needs.{needs}
 use Rattle.labels.proofs.first_unfit_with.Statement.{statement}
 use Rattle.labels.proofs.first_unfit_with.Tie as tie
 
 abbrev Inv-loop : tie.InvT-loop
-Inv-loop kanji form i₀ i = indexOf (unfit (todayWith kanji)) form ≡ i + indexOf (unfit (todayWith kanji)) (drop i form)
+Inv-loop kanji edition form i₀ i = indexOf (unfit (editionWith kanji edition)) form ≡ i + indexOf (unfit (editionWith kanji edition)) (drop i form)
 
 abbrev μ-loop : tie.MeasureT-loop
-μ-loop kanji form i₀ i = length form - i
+μ-loop kanji edition form i₀ i = length form - i
 
 loop-holds : tie.Need-loop-holds Inv-loop μ-loop
 loop-holds c = search needs

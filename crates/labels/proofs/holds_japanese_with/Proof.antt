@@ -8,16 +8,16 @@ use Rattle.lists.specs.Tests.{anyOf}
 use Rattle.lists.proofs.Scan.{any-here, any-on, any-end}
 use Rattle.rules.specs.Permits.{jaChar}
 use Rattle.rules.specs.Rules.{isJapanese}
-use Rattle.rules.specs.Editions.{todayWith}
+use Rattle.rules.specs.Editions.{editionWith}
 use borrow.Author.Needs.{needs}
 use Rattle.labels.proofs.holds_japanese_with.Statement.{statement}
 use Rattle.labels.proofs.holds_japanese_with.Tie as tie
 
 abbrev Inv-loop : tie.InvT-loop
-Inv-loop kanji label i₀ i = (i ≤ length label) × (anyOf (jaChar (todayWith kanji)) label ≡ anyOf (jaChar (todayWith kanji)) (drop i label))
+Inv-loop kanji edition label i₀ i = (i ≤ length label) × (anyOf (jaChar (editionWith kanji edition)) label ≡ anyOf (jaChar (editionWith kanji edition)) (drop i label))
 
 abbrev μ-loop : tie.MeasureT-loop
-μ-loop kanji label i₀ i = length label - i
+μ-loop kanji edition label i₀ i = length label - i
 
 loop-holds : tie.Need-loop-holds Inv-loop μ-loop
 loop-holds c = search needs

@@ -13,7 +13,7 @@ known-rule-with-requires : tie.Need-known-rule-with-requires
 known-rule-with-requires c κs = search needs
 
 returns : tie.Need-returns
-returns c = c .known-rule-with .ensures ∙ rows-are _ (lent-dot _) _ _ _ (c .before .holds-japanese-with .ensures)
+returns c = c .known-rule-with .ensures ∙ rows-are _ (lent-dot _ _) _ _ _ (c .before .holds-japanese-with .ensures)
 
 pub label-rule-with-spec : {M : Type 1} → statement M
 label-rule-with-spec = tie.close (tie.spec holds-japanese-with-requires known-rule-with-requires returns)

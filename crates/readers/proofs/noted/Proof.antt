@@ -3,7 +3,7 @@
 use mathlib.Core.Path.{ap, _∙_}
 use Rattle.characters.specs.Characters.{anyKind}
 use Rattle.rules.specs.Permits.{jaChar}
-use Rattle.rules.specs.Editions.{todayWith}
+use Rattle.rules.specs.Editions.{editionWith}
 use Rattle.readers.proofs.Reading.{note-is}
 use borrow.Author.Needs.{needs}
 use Rattle.readers.proofs.noted.Statement.{statement}
@@ -31,7 +31,7 @@ add-t9 : tie.Need-add-t9
 add-t9 c = search needs
 
 returns : tie.Need-returns
-unfolding todayWith jaChar
+unfolding editionWith jaChar
 returns c = note-is _ _ _ (c .before .before .before .before .before .is-japanese .ensures ∙ ap anyKind (c .before .before .before .before .before .before .kind-with .ensures)) (c .before .before .before .before .either .ensures) (c .before .before .before .either2 .ensures) (c .before .before .is-ordinary-with .ensures) (c .before .either3 .ensures)
 
 pub noted-spec : {M : Type 1} → statement M

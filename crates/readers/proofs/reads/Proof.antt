@@ -3,7 +3,7 @@
 use mathlib.Core.Path.{_≡_}
 use Rattle.rules.specs.Permits.{Permits}
 use Rattle.rules.specs.Reader.{reader}
-use Rattle.rules.proofs.Today.{lending}
+use Rattle.rules.proofs.Editions.{lending}
 use borrow.Author.Needs.{needs}
 use Rattle.readers.proofs.reads.Statement.{statement}
 use Rattle.readers.proofs.reads.Tie as tie
@@ -18,7 +18,7 @@ reads-with-requires : tie.Need-reads-with-requires
 reads-with-requires c κs = search needs
 
 returns : tie.Need-returns
-returns c = lending (λ (P : Permits). c .reads-with .result ≡ reader P (c .before .before .before .before .args .label .now)) (c .before .before .kanji-bits .ensures) (c .reads-with .ensures)
+returns c = lending (λ (P : Permits). c .reads-with .result ≡ reader P (c .before .before .before .before .args .label .now)) 4 (c .before .before .kanji-bits .ensures) (c .reads-with .ensures)
 
 pub reads-spec : {M : Type 1} → statement M
 reads-spec =

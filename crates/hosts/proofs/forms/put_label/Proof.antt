@@ -3,7 +3,7 @@
 use mathlib.Core.Path.{refl}
 use native.Mathlib.Omega.{arith}
 use Rattle.rules.specs.Editions.{todayWith}
-use Rattle.rules.proofs.Today.{lent-stretch}
+use Rattle.rules.proofs.Editions.{lent-stretch}
 use Rattle.hosts.proofs.Putting.{scratch-fits, piece-length, place-fits, label-put}
 use borrow.Author.Needs.{needs}
 use Rattle.hosts.proofs.forms.put_label.Statement.{statement}
@@ -27,7 +27,7 @@ part-copy-start c = search needs
 part-copy-end : tie.Need-part-copy-end
 part-copy-end c =
     let s = c .before .before .before .before .before .before .before in
-    omega (arith, scratch-fits (todayWith (s .args .kanji .now)) (lent-stretch _) (s .args .label .now) (s .args .at) (s .args .out .now) (s .pre) (c .before .before .label-form .ensures) (omega arith))
+    omega (arith, scratch-fits (todayWith (s .args .kanji .now)) (lent-stretch _ _) (s .args .label .now) (s .args .at) (s .args .out .now) (s .pre) (c .before .before .label-form .ensures) (omega arith))
 
 sub-copy-2 : tie.Need-sub-copy-2
 sub-copy-2 c = omega (arith, c .before .before .before .before .before .before .before .before .pre .fits)
@@ -41,12 +41,12 @@ part-copy-end-2 c = search needs
 copy-requires : tie.Need-copy-requires
 copy-requires c κs =
     let s = c .before .before .before .before .before .before .before .before .before in
-    omega (arith, place-fits (todayWith (s .args .kanji .now)) (lent-stretch _) (s .args .label .now) (s .args .at) (s .args .out .now) (s .pre) (c .before .before .before .before .label-form .ensures) (omega arith), piece-length (todayWith (s .args .kanji .now)) (lent-stretch _) (s .args .label .now) (s .args .at) (s .args .out .now) (s .pre) (c .before .before .before .before .label-form .ensures) (omega arith))
+    omega (arith, place-fits (todayWith (s .args .kanji .now)) (lent-stretch _ _) (s .args .label .now) (s .args .at) (s .args .out .now) (s .pre) (c .before .before .before .before .label-form .ensures) (omega arith), piece-length (todayWith (s .args .kanji .now)) (lent-stretch _ _) (s .args .label .now) (s .args .at) (s .args .out .now) (s .pre) (c .before .before .before .before .label-form .ensures) (omega arith))
 
 add-result : tie.Need-add-result
 add-result c =
     let s = c .before .before .before .before .before .before .before .before .before .before .before .before in
-    omega (arith, place-fits (todayWith (s .args .kanji .now)) (lent-stretch _) (s .args .label .now) (s .args .at) (s .args .out .now) (s .pre) (c .before .before .before .before .before .before .before .label-form .ensures) (omega arith))
+    omega (arith, place-fits (todayWith (s .args .kanji .now)) (lent-stretch _ _) (s .args .label .now) (s .args .at) (s .args .out .now) (s .pre) (c .before .before .before .before .before .before .before .label-form .ensures) (omega arith))
 
 same-length : tie.Need-same-length
 same-length c = search needs
@@ -54,7 +54,7 @@ same-length c = search needs
 returns : tie.Need-returns
 returns c =
     let s = c .before .before .before .before .before .before .before .before .before .before .before .before in
-    label-put (todayWith (s .args .kanji .now)) (lent-stretch _) (s .args .label .now) (s .args .at) (s .args .out .now) (s .pre) (c .before .before .before .before .before .before .before .label-form .ensures) (omega arith) refl (c .before .before .copy .ensures .1)
+    label-put (todayWith (s .args .kanji .now)) (lent-stretch _ _) (s .args .label .now) (s .args .at) (s .args .out .now) (s .pre) (c .before .before .before .before .before .before .before .label-form .ensures) (omega arith) refl (c .before .before .copy .ensures .1)
 
 pub put-label-spec : {M : Type 1} → statement M
 put-label-spec =

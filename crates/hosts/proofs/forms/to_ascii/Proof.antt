@@ -2,7 +2,7 @@
 -- Assumes nothing.
 use Rattle.rules.specs.Permits.{Permits}
 use Rattle.hosts.specs.Hosts.{HostForms}
-use Rattle.rules.proofs.Today.{lending}
+use Rattle.rules.proofs.Editions.{lending}
 use borrow.Author.Needs.{needs}
 use Rattle.hosts.proofs.forms.to_ascii.Statement.{statement}
 use Rattle.hosts.proofs.forms.to_ascii.Tie as tie
@@ -23,7 +23,7 @@ returns : tie.Need-returns
 returns c =
     let a = c .before .before .before .before .before .before .before .before .args in
     let r = c .before .before .to-ascii-with in
-    lending (λ (P : Permits). HostForms P (a .text .now) (a .out .now) (r .last .1 .1 .0) (r .result)) (c .before .before .before .before .before .kanji-bits .ensures) (r .ensures)
+    lending (λ (P : Permits). HostForms P (a .text .now) (a .out .now) (r .last .1 .1 .0) (r .result)) 4 (c .before .before .before .before .before .kanji-bits .ensures) (r .ensures)
 
 pub to-ascii-spec : {M : Type 1} → statement M
 to-ascii-spec =

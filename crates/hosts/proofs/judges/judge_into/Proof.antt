@@ -29,7 +29,7 @@ part-host-rules-start : tie.Need-part-host-rules-start
 part-host-rules-start c = search needs
 
 part-host-rules-end : tie.Need-part-host-rules-end
-part-host-rules-end c = let h = told-fits _ (told-fit _ (c .before .before .before .before .before .before .front-with .ensures) (omega (arith, (c .before .before .before .before .before .before .before .before .before .before .before .pre))) (c .before .before .if1 .left) (c .before .if2 .left)) in omega (arith, c .before .before .before .before .before .before .front-with .kept .1 .1 .0, (c .before .before .before .before .before .before .before .before .before .before .before .pre))
+part-host-rules-end c = let h = told-fits _ (told-fit _ (c .before .before .before .before .before .before .front-with .ensures) (omega (arith, (c .before .before .before .before .before .before .before .before .before .before .before .pre))) (c .before .before .if1 .left) (c .before .if2 .left)) in omega (arith, c .before .before .before .before .before .before .front-with .kept .1 .1 .1 .0, (c .before .before .before .before .before .before .before .before .before .before .before .pre))
 
 host-rules-requires : tie.Need-host-rules-requires
 host-rules-requires c κs = (form-fit _ (told-fit _ (c .before .before .before .before .before .before .before .front-with .ensures) (omega (arith, (c .before .before .before .before .before .before .before .before .before .before .before .before .pre))) (c .before .before .before .if1 .left) (c .before .before .if2 .left)), form-few _ (told-fit _ (c .before .before .before .before .before .before .before .front-with .ensures) (omega (arith, (c .before .before .before .before .before .before .before .before .before .before .before .before .pre))) (c .before .before .before .if1 .left) (c .before .before .if2 .left)))

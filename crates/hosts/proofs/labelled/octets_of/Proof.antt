@@ -3,7 +3,7 @@
 use native.Mathlib.Omega.{arith}
 use borrow.Author.Tests.{eqb-true}
 use Rattle.rules.specs.Editions.{todayWith}
-use Rattle.rules.proofs.Today.{lent-stretch}
+use Rattle.rules.proofs.Editions.{lent-stretch}
 use Rattle.ascii.proofs.OfNames.{took, gave}
 use borrow.Author.Needs.{needs}
 use Rattle.hosts.proofs.labelled.octets_of.Statement.{statement}
@@ -17,8 +17,8 @@ label-form-requires c κs = search needs
 
 returns : tie.Need-returns
 returns c = record {
-  coded = took (todayWith (c .before .before .before .before .before .before .args .kanji .now)) (lent-stretch _) (c .before .before .label-form .ensures) (omega arith) (c .before .before .before .before .before .before .pre);
-  count = λ y. gave (todayWith (c .before .before .before .before .before .before .args .kanji .now)) (lent-stretch _) (c .before .before .label-form .ensures) (omega arith) (c .before .before .before .before .before .before .pre) (eqb-true _ 0 y) .0;
+  coded = took (todayWith (c .before .before .before .before .before .before .args .kanji .now)) (lent-stretch _ _) (c .before .before .label-form .ensures) (omega arith) (c .before .before .before .before .before .before .pre);
+  count = λ y. gave (todayWith (c .before .before .before .before .before .before .args .kanji .now)) (lent-stretch _ _) (c .before .before .label-form .ensures) (omega arith) (c .before .before .before .before .before .before .pre) (eqb-true _ 0 y) .0;
 }
 
 pub octets-of-spec : {M : Type 1} → statement M

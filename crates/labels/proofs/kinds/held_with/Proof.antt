@@ -13,14 +13,14 @@ use Rattle.labels.proofs.kinds.held_with.Statement.{statement}
 use Rattle.labels.proofs.kinds.held_with.Tie as tie
 
 abbrev Inv-loop : tie.InvT-loop
-Inv-loop kanji label any-hiragana₀ any-katakana₀ any-kanji₀ any-sign₀ i₀ any-hiragana any-katakana any-kanji any-sign i =
-    HeldSoFar kanji label (record { hiragana = any-hiragana; katakana = any-katakana; kanji = any-kanji; sign = any-sign }) i
+Inv-loop kanji edition label any-hiragana₀ any-katakana₀ any-kanji₀ any-sign₀ i₀ any-hiragana any-katakana any-kanji any-sign i =
+    HeldSoFar kanji edition label (record { hiragana = any-hiragana; katakana = any-katakana; kanji = any-kanji; sign = any-sign }) i
 
 abbrev μ-loop : tie.MeasureT-loop
-μ-loop kanji label any-hiragana₀ any-katakana₀ any-kanji₀ any-sign₀ i₀ any-hiragana any-katakana any-kanji any-sign i = length label - i
+μ-loop kanji edition label any-hiragana₀ any-katakana₀ any-kanji₀ any-sign₀ i₀ any-hiragana any-katakana any-kanji any-sign i = length label - i
 
 loop-holds : tie.Need-loop-holds Inv-loop μ-loop
-loop-holds c = unseen _ _
+loop-holds c = unseen _ _ _
 
 mul-c : tie.Need-mul-c Inv-loop μ-loop
 mul-c c = search needs
@@ -38,13 +38,13 @@ unfit-requires : tie.Need-unfit-requires Inv-loop μ-loop
 unfit-requires c κs = search needs
 
 returns : tie.Need-returns Inv-loop μ-loop
-returns c = c .unfit .ensures ∙ ascii-not _ _ (c .before .before .before .before .before .before .loop .inv) (omega arith) (c .before .before .before .if1 .taken) (c .before .before .is-ascii .ensures) (not-true _ (c .before .if2 .taken))
+returns c = c .unfit .ensures ∙ ascii-not _ _ _ (c .before .before .before .before .before .before .loop .inv) (omega arith) (c .before .before .before .if1 .taken) (c .before .before .is-ascii .ensures) (not-true _ (c .before .if2 .taken))
 
 loop-less : tie.Need-loop-less Inv-loop μ-loop
 loop-less c = search needs
 
 loop-again : tie.Need-loop-again Inv-loop μ-loop
-loop-again c = ascii-on _ _ (c .before .before .before .before .before .loop .inv) (omega arith) (c .before .before .if1 .taken) (c .before .is-ascii .ensures) (not-false _ (c .if2 .left))
+loop-again c = ascii-on _ _ _ (c .before .before .before .before .before .loop .inv) (omega arith) (c .before .before .if1 .taken) (c .before .is-ascii .ensures) (not-false _ (c .if2 .left))
 
 kind-with-requires : tie.Need-kind-with-requires Inv-loop μ-loop
 kind-with-requires c κs = search needs
@@ -57,7 +57,7 @@ loop-less-2 c = search needs
 
 loop-again-2 : tie.Need-loop-again-2 Inv-loop μ-loop
 unfolding together only sameKind kindLetter anyKind
-loop-again-2 c = kind-on _ _ (c .before .before .before .before .before .before .loop .inv) (omega arith) (c .before .before .before .if1 .left) (sym (c .enum-told .given .1) ∙ c .before .before .kind-with .ensures) refl
+loop-again-2 c = kind-on _ _ _ (c .before .before .before .before .before .before .loop .inv) (omega arith) (c .before .before .before .if1 .left) (sym (c .enum-told .given .1) ∙ c .before .before .kind-with .ensures) refl
 
 enum-told-2 : tie.Need-enum-told-2 Inv-loop μ-loop
 enum-told-2 c = search needs
@@ -67,7 +67,7 @@ loop-less-3 c = search needs
 
 loop-again-3 : tie.Need-loop-again-3 Inv-loop μ-loop
 unfolding together only sameKind kindLetter anyKind
-loop-again-3 c = kind-on _ _ (c .before .before .before .before .before .before .loop .inv) (omega arith) (c .before .before .before .if1 .left) (sym (c .enum-told2 .given .1) ∙ c .before .before .kind-with .ensures) refl
+loop-again-3 c = kind-on _ _ _ (c .before .before .before .before .before .before .loop .inv) (omega arith) (c .before .before .before .if1 .left) (sym (c .enum-told2 .given .1) ∙ c .before .before .kind-with .ensures) refl
 
 enum-told-3 : tie.Need-enum-told-3 Inv-loop μ-loop
 enum-told-3 c = search needs
@@ -77,7 +77,7 @@ loop-less-4 c = search needs
 
 loop-again-4 : tie.Need-loop-again-4 Inv-loop μ-loop
 unfolding together only sameKind kindLetter anyKind
-loop-again-4 c = kind-on _ _ (c .before .before .before .before .before .before .loop .inv) (omega arith) (c .before .before .before .if1 .left) (sym (c .enum-told3 .given .1) ∙ c .before .before .kind-with .ensures) refl
+loop-again-4 c = kind-on _ _ _ (c .before .before .before .before .before .before .loop .inv) (omega arith) (c .before .before .before .if1 .left) (sym (c .enum-told3 .given .1) ∙ c .before .before .kind-with .ensures) refl
 
 enum-told-4 : tie.Need-enum-told-4 Inv-loop μ-loop
 enum-told-4 c = search needs
@@ -87,7 +87,7 @@ loop-less-5 c = search needs
 
 loop-again-5 : tie.Need-loop-again-5 Inv-loop μ-loop
 unfolding together only sameKind kindLetter anyKind
-loop-again-5 c = kind-on _ _ (c .before .before .before .before .before .before .loop .inv) (omega arith) (c .before .before .before .if1 .left) (sym (c .enum-told4 .given .1) ∙ c .before .before .kind-with .ensures) refl
+loop-again-5 c = kind-on _ _ _ (c .before .before .before .before .before .before .loop .inv) (omega arith) (c .before .before .before .if1 .left) (sym (c .enum-told4 .given .1) ∙ c .before .before .kind-with .ensures) refl
 
 enum-told-5 : tie.Need-enum-told-5 Inv-loop μ-loop
 enum-told-5 c = search needs
@@ -97,10 +97,10 @@ unfit-requires-2 c κs = search needs
 
 returns-2 : tie.Need-returns-2 Inv-loop μ-loop
 unfolding anyKind
-returns-2 c = c .unfit2 .ensures ∙ kind-not _ _ (c .before .before .before .before .before .before .before .loop .inv) (omega arith) (c .before .before .before .before .if1 .left) (sym (c .before .enum-told5 .given .1) ∙ c .before .before .before .kind-with .ensures) refl
+returns-2 c = c .unfit2 .ensures ∙ kind-not _ _ _ (c .before .before .before .before .before .before .before .loop .inv) (omega arith) (c .before .before .before .before .if1 .left) (sym (c .before .enum-told5 .given .1) ∙ c .before .before .before .kind-with .ensures) refl
 
 returns-3 : tie.Need-returns-3 Inv-loop μ-loop
-returns-3 c = all-seen _ _ (c .before .loop .inv) (omega arith)
+returns-3 c = all-seen _ _ _ (c .before .loop .inv) (omega arith)
 
 pub held-with-spec : {M : Type 1} → statement M
 held-with-spec =

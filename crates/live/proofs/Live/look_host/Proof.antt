@@ -2,7 +2,7 @@
 -- Assumes nothing.
 use mathlib.Core.Path.{_≡_}
 use Rattle.rules.specs.Permits.{Permits}
-use Rattle.rules.proofs.Today.{lending}
+use Rattle.rules.proofs.Editions.{lending}
 use Rattle.live.specs.HostLooks.{hostLooked}
 use borrow.Author.Needs.{needs}
 use Rattle.live.proofs.Live.look_host.Statement.{statement}
@@ -18,7 +18,7 @@ look-host-with-requires : tie.Need-look-host-with-requires
 look-host-with-requires c κs = search needs
 
 returns : tie.Need-returns
-returns c = lending (λ (P : Permits). c .look-host-with .result ≡ hostLooked P (c .before .before .before .args .self)) (c .before .before .kanji-bits .ensures) (c .look-host-with .ensures)
+returns c = lending (λ (P : Permits). c .look-host-with .result ≡ hostLooked P (c .before .before .before .args .self)) 4 (c .before .before .kanji-bits .ensures) (c .look-host-with .ensures)
 
 pub look-host-spec : {M : Type 1} → statement M
 look-host-spec = tie.close (tie.spec kanji-bits-requires slice-aggregate-look-host-with look-host-with-requires returns)

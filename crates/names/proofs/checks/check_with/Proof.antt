@@ -31,7 +31,7 @@ part-label-places-start : tie.Need-part-label-places-start
 part-label-places-start c = search needs
 
 part-label-places-end : tie.Need-part-label-places-end
-part-label-places-end c = let p = accepted-as _ _ (c .before .before .before .before .before .judge-into .ensures) (c .before .if2 .left) in omega (arith, p .few, c .before .before .before .before .before .judge-into .kept .1 .1 .0)
+part-label-places-end c = let p = accepted-as _ _ (c .before .before .before .before .before .judge-into .ensures) (c .before .if2 .left) in omega (arith, p .few, c .before .before .before .before .before .judge-into .kept .1 .1 .1 .0)
 
 label-places-requires : tie.Need-label-places-requires
 label-places-requires c κs = two-or-three-there _ _ (c .before .before .before .before .before .before .judge-into .ensures) (c .before .before .if2 .left)
@@ -43,7 +43,7 @@ part-copy-start : tie.Need-part-copy-start
 part-copy-start c = search needs
 
 part-copy-end : tie.Need-part-copy-end
-part-copy-end c = let p = accepted-as _ _ (c .before .before .before .before .before .before .before .judge-into .ensures) (c .before .before .before .if2 .left) in omega (arith, p .few, c .before .before .before .before .before .before .before .judge-into .kept .1 .1 .0)
+part-copy-end c = let p = accepted-as _ _ (c .before .before .before .before .before .before .before .judge-into .ensures) (c .before .before .before .if2 .left) in omega (arith, p .few, c .before .before .before .before .before .before .before .judge-into .kept .1 .1 .1 .0)
 
 copy-requires : tie.Need-copy-requires
 copy-requires c κs = search needs

@@ -30,7 +30,7 @@ add-two-grow : tie.Need-add-two-grow
 add-two-grow c = omega (arith, c .before .before .before .before .before .label-ends .ensures .two (c .before .if2 .taken) .0)
 
 mul-two-grow : tie.Need-mul-two-grow
-mul-two-grow c = omega (arith, c .before .before .before .before .before .label-ends .ensures .two (c .before .if2 .taken) .0, c .before .before .before .before .before .before .before .before .good .1 .0)
+mul-two-grow c = omega (arith, c .before .before .before .before .before .label-ends .ensures .two (c .before .if2 .taken) .0, c .before .before .before .before .before .before .before .before .good .1 .1 .0)
 
 sub-two-grow-2 : tie.Need-sub-two-grow-2
 sub-two-grow-2 c = omega (arith, c .before .before .before .before .before .label-ends .ensures .two (c .before .if2 .taken) .0)
@@ -60,7 +60,7 @@ add-three-grow : tie.Need-add-three-grow
 add-three-grow c = let p = c .before .before .before .before .before .before .before .label-ends .ensures .three (c .before .if3 .taken) in omega (arith, p .0, p .1)
 
 mul-three-grow : tie.Need-mul-three-grow
-mul-three-grow c = let p = c .before .before .before .before .before .before .before .label-ends .ensures .three (c .before .if3 .taken) in omega (arith, p .0, p .1, c .before .before .before .before .before .before .before .before .before .before .good .1 .0)
+mul-three-grow c = let p = c .before .before .before .before .before .before .before .label-ends .ensures .three (c .before .if3 .taken) in omega (arith, p .0, p .1, c .before .before .before .before .before .before .before .before .before .before .good .1 .1 .0)
 
 sub-three-grow-2 : tie.Need-sub-three-grow-2
 sub-three-grow-2 c = let p = c .before .before .before .before .before .before .before .label-ends .ensures .three (c .before .if3 .taken) in omega (arith, p .0, p .1)
@@ -75,7 +75,7 @@ add-three-grow-2 : tie.Need-add-three-grow-2
 add-three-grow-2 c = let p = c .before .before .before .before .before .before .before .before .label-ends .ensures .three (c .before .before .if3 .taken) in omega (arith, p .0, p .1)
 
 mul-three-grow-2 : tie.Need-mul-three-grow-2
-mul-three-grow-2 c = let p = c .before .before .before .before .before .before .before .before .label-ends .ensures .three (c .before .before .if3 .taken) in omega (arith, p .0, p .1, c .before .before .before .before .before .before .before .before .before .before .before .good .1 .0)
+mul-three-grow-2 c = let p = c .before .before .before .before .before .before .before .before .label-ends .ensures .three (c .before .before .if3 .taken) in omega (arith, p .0, p .1, c .before .before .before .before .before .before .before .before .before .before .before .good .1 .1 .0)
 
 sub-three-grow-3 : tie.Need-sub-three-grow-3
 sub-three-grow-3 c = let p = c .before .before .before .before .before .before .before .before .label-ends .ensures .three (c .before .before .if3 .taken) in omega (arith, p .0, p .1)

@@ -3,7 +3,7 @@
 use mathlib.Core.Path.{_≡_}
 use Rattle.rules.specs.Permits.{Permits}
 use Rattle.rules.specs.Hopeful.{hopeful}
-use Rattle.rules.proofs.Today.{lending}
+use Rattle.rules.proofs.Editions.{lending}
 use borrow.Author.Needs.{needs}
 use Rattle.names.proofs.hopes.may_become.Statement.{statement}
 use Rattle.names.proofs.hopes.may_become.Tie as tie
@@ -18,7 +18,7 @@ may-become-with-requires : tie.Need-may-become-with-requires
 may-become-with-requires c κs = search needs
 
 returns : tie.Need-returns
-returns c = lending (λ (P : Permits). c .may-become-with .result ≡ hopeful P (c .before .before .before .before .args .text .now)) (c .before .before .kanji-bits .ensures) (c .may-become-with .ensures)
+returns c = lending (λ (P : Permits). c .may-become-with .result ≡ hopeful P (c .before .before .before .before .args .text .now)) _ (c .before .before .kanji-bits .ensures) (c .may-become-with .ensures)
 
 pub may-become-spec : {M : Type 1} → statement M
 may-become-spec =

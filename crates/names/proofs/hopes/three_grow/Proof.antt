@@ -16,13 +16,13 @@ is-prefecture-requires : tie.Need-is-prefecture-requires
 is-prefecture-requires c κs = search needs
 
 returns-2 : tie.Need-returns-2
-returns-2 c = three-no-middle _ _ _ _ (c .before .before .before .is-leftmost .ensures) (c .before .before .if1 .left) (middle-is _ _ (c .before .is-prefecture .ensures)) (c .if2 .taken)
+returns-2 c = three-no-middle _ _ _ _ (c .before .before .before .is-leftmost .ensures) (c .before .before .if1 .left) (middle-is _ _ _ (c .before .is-prefecture .ensures)) (c .if2 .taken)
 
 begins-jp-requires : tie.Need-begins-jp-requires
 begins-jp-requires c κs = search needs
 
 returns-3 : tie.Need-returns-3
-returns-3 c = three-last _ _ _ _ (c .before .before .before .before .is-leftmost .ensures) (c .before .before .before .if1 .left) (middle-is _ _ (c .before .before .is-prefecture .ensures)) (c .before .if2 .left) (c .begins-jp .ensures)
+returns-3 c = three-last _ _ _ _ (c .before .before .before .before .is-leftmost .ensures) (c .before .before .before .if1 .left) (middle-is _ _ _ (c .before .before .is-prefecture .ensures)) (c .before .if2 .left) (c .begins-jp .ensures)
 
 pub three-grow-spec : {M : Type 1} → statement M
 three-grow-spec =

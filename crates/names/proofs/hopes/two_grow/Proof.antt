@@ -21,7 +21,7 @@ begins-prefecture-requires : tie.Need-begins-prefecture-requires
 begins-prefecture-requires c κs = search needs
 
 returns-3 : tie.Need-returns-3
-returns-3 c = two-middle _ _ _ (c .before .before .before .before .is-leftmost .ensures) (c .before .before .before .if1 .left) (c .before .before .begins-jp .ensures) (c .before .if2 .left) (begins-middle _ _ (c .begins-prefecture .ensures))
+returns-3 c = two-middle _ _ _ (c .before .before .before .before .is-leftmost .ensures) (c .before .before .before .if1 .left) (c .before .before .begins-jp .ensures) (c .before .if2 .left) (begins-middle _ _ _ (c .begins-prefecture .ensures))
 
 pub two-grow-spec : {M : Type 1} → statement M
 two-grow-spec =

@@ -28,7 +28,7 @@ part-places-said-start c = search needs
 part-places-said-end : tie.Need-part-places-said-end
 part-places-said-end c =
     let j = c .before .before .judge-into in
-    omega (arith, ap (λ (r : Ruled). r .length) (j .ensures .result), shown-fits (c .before .before .before .before .before .before .args .text .now), j .kept .1 .1 .0)
+    omega (arith, ap (λ (r : Ruled). r .length) (j .ensures .result), shown-fits (c .before .before .before .before .before .before .args .text .now), j .kept .1 .1 .1 .0)
 
 places-said-requires : tie.Need-places-said-requires
 places-said-requires c κs = two-or-three-there _ _ (c .before .before .before .judge-into .ensures)

@@ -3,7 +3,7 @@
 use mathlib.Core.Path.{refl}
 use native.Mathlib.Omega.{arith}
 use borrow.Author.Tests.{not-true, not-false}
-use Rattle.rules.proofs.Today.{lent-short}
+use Rattle.rules.proofs.Editions.{lent-short}
 use Rattle.names.proofs.Answering.{accepted-as, answer-is, ascii-refused}
 use Rattle.names.proofs.Enough.{ready, put-size, piece-length, stopped, finished}
 use borrow.Author.Needs.{needs}
@@ -32,13 +32,13 @@ part-put-labels-start : tie.Need-part-put-labels-start
 part-put-labels-start c = search needs
 
 part-put-labels-end : tie.Need-part-put-labels-end
-part-put-labels-end c = let p = accepted-as _ _ (c .before .before .before .before .judge-into .ensures) (c .before .if1 .left) in omega (arith, p .few, c .before .before .before .before .judge-into .kept .1 .1 .0)
+part-put-labels-end c = let p = accepted-as _ _ (c .before .before .before .before .judge-into .ensures) (c .before .if1 .left) in omega (arith, p .few, c .before .before .before .before .judge-into .kept .1 .1 .1 .0)
 
 slice-aggregate-put-labels : tie.Need-slice-aggregate-put-labels
 slice-aggregate-put-labels c = search needs
 
 put-labels-requires : tie.Need-put-labels-requires
-put-labels-requires c κs = ready _ (lent-short _) _ (c .before .before .before .before .before .before .judge-into .ensures) (c .before .before .before .if1 .left)
+put-labels-requires c κs = ready _ (lent-short _ _) _ (c .before .before .before .before .before .before .judge-into .ensures) (c .before .before .before .if1 .left)
 
 refused-form-requires-2 : tie.Need-refused-form-requires-2
 refused-form-requires-2 c κs = search needs
@@ -66,7 +66,7 @@ copy-requires c κs =
     let t = c .before .before .before .before .before .before .put-labels .ensures in
     let h = put-size _ _ e z t y in
     let l = piece-length _ _ e z t y in
-    omega (arith, c .before .before .before .before .before .before .put-labels .kept .1 .1 .0, c .before .before .before .before .before .before .before .before .before .before .before .before .before .before .before .before .before .before .pre)
+    omega (arith, c .before .before .before .before .before .before .put-labels .kept .1 .1 .1 .0, c .before .before .before .before .before .before .before .before .before .before .before .before .before .before .before .before .before .before .pre)
 
 sub-leftmost-kinds : tie.Need-sub-leftmost-kinds
 sub-leftmost-kinds c = search needs
@@ -78,7 +78,7 @@ part-leftmost-kinds-end : tie.Need-part-leftmost-kinds-end
 part-leftmost-kinds-end c =
     let e = c .before .before .before .before .before .before .before .before .before .before .before .before .before .before .before .before .judge-into in
     let p = accepted-as _ _ (e .ensures) (c .before .before .before .before .before .before .before .before .before .before .before .before .before .if1 .left) in
-    omega (arith, p .few, e .kept .1 .1 .0)
+    omega (arith, p .few, e .kept .1 .1 .1 .0)
 
 leftmost-kinds-requires : tie.Need-leftmost-kinds-requires
 leftmost-kinds-requires c κs = search needs

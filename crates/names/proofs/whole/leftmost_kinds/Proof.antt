@@ -4,7 +4,7 @@ use mathlib.Core.Path.{ap, _∙_}
 use mathlib.Core.List.{List}
 use Prim.Native.Nat.{ℕ}
 use native.Mathlib.Omega.{arith}
-use Rattle.rules.specs.Editions.{todayWith}
+use Rattle.rules.specs.Editions.{editionWith}
 use Rattle.rules.proofs.Cuts.{ended}
 use Rattle.labels.specs.Held.{heldIn}
 use Rattle.labels.specs.declared.Held.{Held}
@@ -32,7 +32,7 @@ returns : tie.Need-returns
 returns c =
     let a = c .before .before .before .before .before .before .args in
     ap (λ (h : Held). h .kinds) (c .before .held-with .ensures
-    ∙ ap (λ (l : List ℕ). heldIn (todayWith (a .kanji .now)) l) (leftmost-is _ _ (c .before .before .before .label-end .ensures)))
+    ∙ ap (λ (l : List ℕ). heldIn (editionWith (a .kanji .now) (a .edition)) l) (leftmost-is _ _ (c .before .before .before .label-end .ensures)))
 
 pub leftmost-kinds-spec : {M : Type 1} → statement M
 leftmost-kinds-spec =

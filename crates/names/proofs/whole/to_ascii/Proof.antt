@@ -2,7 +2,7 @@
 -- Assumes nothing.
 use Rattle.rules.specs.Permits.{Permits}
 use Rattle.names.specs.Calls.{AsciiForms}
-use Rattle.rules.proofs.Today.{lending}
+use Rattle.rules.proofs.Editions.{lending}
 use borrow.Author.Needs.{needs}
 use Rattle.names.proofs.whole.to_ascii.Statement.{statement}
 use Rattle.names.proofs.whole.to_ascii.Tie as tie
@@ -23,7 +23,7 @@ returns : tie.Need-returns
 returns c =
     let a = c .before .before .before .before .before .before .before .before .args in
     let r = c .before .before .to-ascii-with in
-    lending (λ (P : Permits). AsciiForms P (a .text .now) (a .out .now) (r .last .1 .1 .0) (r .result)) (c .before .before .before .before .before .kanji-bits .ensures) (r .ensures)
+    lending (λ (P : Permits). AsciiForms P (a .text .now) (a .out .now) (r .last .1 .1 .1 .0) (r .result)) _ (c .before .before .before .before .before .kanji-bits .ensures) (r .ensures)
 
 pub to-ascii-spec : {M : Type 1} → statement M
 to-ascii-spec =

@@ -8,10 +8,10 @@ use Rattle.probe.proofs.kinds.kinds.Statement.{statement}
 use Rattle.probe.proofs.kinds.kinds.Tie as tie
 
 abbrev Inv-loop : tie.InvT-loop
-Inv-loop kanji numbers out₀ from o₀ i₀ out o i = length out ≡ length out₀
+Inv-loop kanji edition numbers out₀ from o₀ i₀ out o i = length out ≡ length out₀
 
 abbrev μ-loop : tie.MeasureT-loop
-μ-loop kanji numbers out₀ from o₀ i₀ out o i = length numbers - i
+μ-loop kanji edition numbers out₀ from o₀ i₀ out o i = length numbers - i
 
 loop-holds : tie.Need-loop-holds Inv-loop μ-loop
 loop-holds c = search needs

@@ -8,10 +8,10 @@ use Rattle.probe.proofs.label.put_characters.Statement.{statement}
 use Rattle.probe.proofs.label.put_characters.Tie as tie
 
 abbrev Inv-loop : tie.InvT-loop
-Inv-loop kanji label out₀ from o₀ i₀ out o i = length out ≡ length out₀
+Inv-loop kanji edition label out₀ from o₀ i₀ out o i = length out ≡ length out₀
 
 abbrev μ-loop : tie.MeasureT-loop
-μ-loop kanji label out₀ from o₀ i₀ out o i = length label - i
+μ-loop kanji edition label out₀ from o₀ i₀ out o i = length label - i
 
 loop-holds : tie.Need-loop-holds Inv-loop μ-loop
 loop-holds c = search needs

@@ -8,10 +8,10 @@ use Rattle.probe.proofs.streams.put_hopes.Statement.{statement}
 use Rattle.probe.proofs.streams.put_hopes.Tie as tie
 
 abbrev Inv-loop : tie.InvT-loop
-Inv-loop kanji text out₀ from state₀ o₀ i₀ out state o i = length out ≡ length out₀
+Inv-loop kanji edition text out₀ from state₀ o₀ i₀ out state o i = length out ≡ length out₀
 
 abbrev μ-loop : tie.MeasureT-loop
-μ-loop kanji text out₀ from state₀ o₀ i₀ out state o i = length text - i
+μ-loop kanji edition text out₀ from state₀ o₀ i₀ out state o i = length text - i
 
 fresh-requires : tie.Need-fresh-requires Inv-loop μ-loop
 fresh-requires c κs = search needs

@@ -7,10 +7,10 @@ use Rattle.probe.proofs.streams.typed.Statement.{statement}
 use Rattle.probe.proofs.streams.typed.Tie as tie
 
 abbrev Inv-loop : tie.InvT-loop
-Inv-loop text state₀ i₀ state i = Unit {0}
+Inv-loop edition text state₀ i₀ state i = Unit {0}
 
 abbrev μ-loop : tie.MeasureT-loop
-μ-loop text state₀ i₀ state i = length text - i
+μ-loop edition text state₀ i₀ state i = length text - i
 
 fresh-requires : tie.Need-fresh-requires Inv-loop μ-loop
 fresh-requires c κs = search needs
