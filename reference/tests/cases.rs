@@ -4,6 +4,7 @@ use reference::cases::coder::mutants;
 use reference::cases::hosts::CALLS;
 use reference::cases::numbers_of;
 use reference::coder::{is_encodable, RFC};
+use reference::edition::Edition;
 use reference::{cases, count, grammar, name, normal, probe};
 use std::collections::BTreeSet;
 
@@ -23,7 +24,7 @@ fn case_file_is_well_formed_and_of_bearable_size() {
 fn each_number_comes_up_a_hundred_times() {
     let lines = cases::all_lines();
     for (number, times) in counted(&lines).into_iter().enumerate() {
-        let asked = if number == 18 { times == 0 } else { times >= 100 };
+        let asked = if [18, 20, 21, 22, 23, 24, 25].contains(&number) { times == 0 } else { times >= 100 };
         assert!(asked, "{number} comes up {times} times");
     }
 }
@@ -113,7 +114,8 @@ fn the_forms_of_hosts_come_up_to_the_longest_and_past_it() {
     for line in lines.iter().filter(|line| line.starts_with('H')) {
         let labels = normal::labels(&normal::normal_form(&numbers_of(line)));
         if labels.iter().all(|label| grammar::is_host_label(label)) {
-            let japanese = labels.iter().filter(|label| name::is_japanese_label(label)).count();
+            let japanese =
+                labels.iter().filter(|label| name::is_japanese_label(label, Edition::Today)).count();
             let mixed = japanese > 0 && japanese < labels.len();
             seen.insert((grammar::host_octets(&labels), japanese > 0, mixed));
         }

@@ -3,7 +3,8 @@
 
 use reference::cases::random::NameMaker;
 use reference::chars::is_japanese;
-use reference::hope::may_become;
+use reference::edition::Edition;
+use reference::hope;
 use reference::name::{check, japanese_prefectures, latin_prefectures};
 use reference::normal::{compositions, normal_form};
 use reference::points;
@@ -17,8 +18,13 @@ const KINDS: &str = "aZ7-.\u{3042}\u{304B}\u{30CF}\u{4E9C}\u{3005}\u{3006}\u{30F
 /// The kinds that labels are made of.
 const LABEL_KINDS: &str = "a-\u{304B}\u{30FC}\u{30FB}\u{309B}\u{FF8A}\u{FF9F}";
 
+/// Whether a text may become a name by today's rules.
+fn may_become(text: &[u32]) -> bool {
+    hope::may_become(text, Edition::Today)
+}
+
 fn accepted(text: &[u32]) -> bool {
-    check(text).is_ok()
+    check(text, Edition::Today).is_ok()
 }
 
 fn with(text: &[u32], more: &[u32]) -> Vec<u32> {
@@ -202,10 +208,10 @@ fn second_and_third_labels_may_where_the_end_of_an_ending_makes_a_name() {
 /// base.
 #[test]
 fn a_base_and_what_a_mark_makes_of_it_are_of_one_kind() {
-    let plain = |code: &u32| is_japanese(*code) && ![0x3006, 0x30FC, 0x30FB].contains(code);
+    let plain = |code: &u32| is_japanese(*code, Edition::Today) && ![0x3006, 0x30FC, 0x30FB].contains(code);
     let in_endings: BTreeSet<u32> = endings().concat().into_iter().collect();
     for ((base, mark), whole) in compositions() {
-        assert!(plain(base) && plain(whole) && !is_japanese(*mark));
+        assert!(plain(base) && plain(whole) && !is_japanese(*mark, Edition::Today));
         assert!(!in_endings.contains(base) && !in_endings.contains(whole));
     }
 }

@@ -4,6 +4,7 @@
 
 use reference::cases::random::{accepted_lines, NameMaker};
 use reference::chars::{self, Kind};
+use reference::edition::Edition;
 use reference::random::Random;
 use reference::{batch, cases, coder, name, normal, points, probe};
 use std::collections::{BTreeSet, HashMap};
@@ -71,8 +72,8 @@ fn the_kind_of_a_character_is_that_of_its_row() {
     let letter_of: HashMap<u32, char> = by_rows().into_iter().collect();
     for code in code_points() {
         let letter = *letter_of.get(&code).unwrap_or(&'-');
-        assert_eq!(Kind::letter(chars::kind(code)), letter, "{code:x}");
-        assert_eq!(chars::letters(&chars::kinds(&[code])), letter.to_string(), "{code:x}");
+        assert_eq!(Kind::letter(chars::kind(code, Edition::Today)), letter, "{code:x}");
+        assert_eq!(chars::letters(&chars::kinds(&[code], Edition::Today)), letter.to_string(), "{code:x}");
     }
 }
 
@@ -83,7 +84,8 @@ fn each_kind_has_its_count_and_no_character_has_two() {
     let counted = |letter: char| by_rows().iter().filter(|one| one.1 == letter).count();
     assert_eq!(LETTERS.chars().map(counted).collect::<Vec<_>>(), [83, 86, 6355, 10]);
     assert_eq!(by_rows().iter().map(|one| one.0).collect::<BTreeSet<_>>().len(), 6534);
-    let own = |kind: Kind| (0..0x30000).filter(|code| chars::kind(*code) == Some(kind)).count();
+    let own =
+        |kind: Kind| (0..0x30000).filter(|code| chars::kind(*code, Edition::Today) == Some(kind)).count();
     assert_eq!([Kind::Hiragana, Kind::Katakana, Kind::Kanji, Kind::Sign].map(own), [83, 86, 6355, 10]);
 }
 
@@ -91,7 +93,7 @@ fn each_kind_has_its_count_and_no_character_has_two() {
 #[test]
 fn signs_are_no_kana_and_no_kanji() {
     for code in [0x30FB, 0x30FD, 0x30FE, 0x309D, 0x309E, 0x4EDD, 0x3005, 0x3006, 0x3007, 0x30FC] {
-        assert_eq!(chars::kind(code), Some(Kind::Sign), "{code:x}");
+        assert_eq!(chars::kind(code, Edition::Today), Some(Kind::Sign), "{code:x}");
     }
     for (code, kind) in [
         (0x3041, Kind::Hiragana),
@@ -102,12 +104,12 @@ fn signs_are_no_kana_and_no_kanji() {
         (0x4E00, Kind::Kanji),
         (0x9FA0, Kind::Kanji),
     ] {
-        assert_eq!(chars::kind(code), Some(kind), "{code:x}");
+        assert_eq!(chars::kind(code, Edition::Today), Some(kind), "{code:x}");
     }
     for code in
         [0x3003, 0x3040, 0x3094, 0x309B, 0x309C, 0x30A0, 0x30F7, 0x30FF, 0x4DFF, 0x9FA1, 0xFF71, 0xFF70]
     {
-        assert_eq!(chars::kind(code), None, "{code:x}");
+        assert_eq!(chars::kind(code, Edition::Today), None, "{code:x}");
     }
 }
 
@@ -119,8 +121,8 @@ fn japanese_is_any_kind_but_none() {
     listed.extend(chars::SIGNS);
     assert_eq!(listed.len(), 6534);
     for code in code_points() {
-        assert_eq!(chars::is_japanese(code), listed.contains(&code), "{code:x}");
-        assert_eq!(chars::japanese().contains_key(&code), listed.contains(&code), "{code:x}");
+        assert_eq!(chars::is_japanese(code, Edition::Today), listed.contains(&code), "{code:x}");
+        assert_eq!(chars::japanese(Edition::Today).contains_key(&code), listed.contains(&code), "{code:x}");
     }
 }
 
@@ -134,12 +136,12 @@ fn the_normal_form_gives_half_width_kana_their_kind() {
             0xFF9E | 0xFF9F => None,
             _ => Some(Kind::Katakana),
         };
-        assert_eq!(chars::kind(half), None, "{half:x}");
-        assert_eq!(chars::kind(normal::replaced(half)), kind, "{half:x}");
+        assert_eq!(chars::kind(half, Edition::Today), None, "{half:x}");
+        assert_eq!(chars::kind(normal::replaced(half), Edition::Today), kind, "{half:x}");
     }
     for ((base, mark), whole) in normal::compositions() {
-        assert!(chars::kind(*base).is_some() && chars::kind(*mark).is_none());
-        assert_eq!(chars::kind(*base), chars::kind(*whole), "{base:x}");
+        assert!(chars::kind(*base, Edition::Today).is_some() && chars::kind(*mark, Edition::Today).is_none());
+        assert_eq!(chars::kind(*base, Edition::Today), chars::kind(*whole, Edition::Today), "{base:x}");
     }
 }
 
@@ -218,14 +220,16 @@ fn refused_names_have_no_kinds() {
     for _ in 0..20_000 {
         let typed = maker.typed_name(&mut random);
         let text = maker.edit(&typed, &mut random);
-        let Err(refusal) = name::check(&text) else { continue };
+        let Err(refusal) = name::check(&text, Edition::Today) else { continue };
         let answer = probe::answer(cases::probe_line('A', 192, &text).as_bytes());
         assert_eq!(answer, format!("{} {} - - 0", refusal.number, refusal.place));
         if text.iter().all(|code| char::from_u32(*code).is_some_and(|c| !"\t".contains(c))) {
             let name: String = text.iter().filter_map(|code| char::from_u32(*code)).collect();
             assert_eq!(answered(&name)[3..], ["-", "-", "-"], "{name}");
         }
-        holding += usize::from(!chars::kinds(&normal::labels(&normal::normal_form(&text))[0]).is_empty());
+        holding += usize::from(
+            !chars::kinds(&normal::labels(&normal::normal_form(&text))[0], Edition::Today).is_empty(),
+        );
     }
     assert!(holding > 5_000, "{holding} names hold kinds");
 }
@@ -299,7 +303,7 @@ fn refused_names_of_the_cases_hold_kinds() {
             for (text, number) in answers_to(line) {
                 let labels = normal::labels(&normal::normal_form(&text));
                 let asked = if [8, 17].contains(&number) { labels.get(1) } else { labels.first() };
-                if asked.is_some_and(|label| !chars::kinds(label).is_empty()) {
+                if asked.is_some_and(|label| !chars::kinds(label, Edition::Today).is_empty()) {
                     seen.insert(number);
                 }
             }

@@ -5,6 +5,7 @@ use reference::answer::{Class, Refusal};
 use reference::cases::duplicates::stand_ins;
 use reference::cases::hosts::HostMaker;
 use reference::cases::random::NameMaker;
+use reference::edition::Edition;
 use reference::random::Random;
 use reference::{cases, grammar, host, name, normal, points};
 use std::collections::HashMap;
@@ -50,7 +51,7 @@ fn names_have_one_form_each() {
     let maker = NameMaker::default();
     let mut register = Register::default();
     for text in texts("NCAL", |random| maker.typed_name(random)) {
-        if let Ok(formed) = name::ascii_form(&text) {
+        if let Ok(formed) = name::ascii_form(&text, Edition::Today) {
             register.enter(&formed.form, &text);
         }
     }
@@ -78,11 +79,11 @@ fn nothing_stands_in_for_a_name() {
     let maker = NameMaker::default();
     let (mut leftmost, mut middle) = (0, 0);
     for text in texts("A", |random| maker.typed_name(random)) {
-        let Ok(accepted) = name::check(&text) else { continue };
+        let Ok(accepted) = name::check(&text, Edition::Today) else { continue };
         for other in stand_ins(&text) {
             let kept = normal::labels(&other)[0] == accepted.labels[0];
             let number = if kept { 12 } else { 17 };
-            assert_eq!(name::check(&other), Err(Refusal::plain(number)), "{text:x?}");
+            assert_eq!(name::check(&other, Edition::Today), Err(Refusal::plain(number)), "{text:x?}");
             (leftmost, middle) = (leftmost + usize::from(!kept), middle + usize::from(kept));
         }
     }
@@ -114,12 +115,12 @@ fn nothing_stands_in_for_a_host() {
 #[test]
 fn without_17_two_names_shared_a_form() {
     let (kana, plain) = (points("\u{3042}.jp"), points("xn--l8j.jp"));
-    assert_eq!(grammar::class_of(&kana), Some(Class::GeneralUse));
-    assert_eq!(grammar::class_of(&plain), Some(Class::GeneralUse));
-    assert_eq!(name::ascii_form(&kana).unwrap().form, "xn--l8j.jp");
+    assert_eq!(grammar::class_of(&kana, Edition::Today), Some(Class::GeneralUse));
+    assert_eq!(grammar::class_of(&plain, Edition::Today), Some(Class::GeneralUse));
+    assert_eq!(name::ascii_form(&kana, Edition::Today).unwrap().form, "xn--l8j.jp");
     assert_eq!(stand_ins(&kana), [plain.clone()]);
     for label in ["xn--l8j", "jp"] {
-        assert_eq!(name::label_form(&points(label)), Ok(label.to_string()));
+        assert_eq!(name::label_form(&points(label), Edition::Today), Ok(label.to_string()));
     }
-    assert_eq!(name::ascii_form(&plain), Err(Refusal::plain(17)));
+    assert_eq!(name::ascii_form(&plain, Edition::Today), Err(Refusal::plain(17)));
 }

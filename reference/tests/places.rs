@@ -7,6 +7,7 @@ use reference::cases::places::CALLS;
 use reference::cases::random::NameMaker;
 use reference::chars::is_japanese;
 use reference::coder::encode_by_insertion;
+use reference::edition::Edition;
 use reference::live::Live;
 use reference::normal::{labels, normal_form, replaced};
 use reference::random::Random;
@@ -35,7 +36,7 @@ fn texts() -> Vec<Vec<u32>> {
 
 /// What the check answers, given room.
 fn checked(text: &[u32]) -> Answer {
-    calls::check(text, &mut [0; 256])
+    calls::check(text, Edition::Today.number(), &mut [0; 256])
 }
 
 /// The texts that are accepted, and what the check answers.
@@ -95,7 +96,7 @@ fn labels_that_are_cut_out_and_joined_give_back_the_normal_form() {
         assert_eq!(pieces, labels(&normal), "{text:x?}");
         assert_eq!(pieces.last(), Some(&points("jp")), "{text:x?}");
         if pieces.len() == 3 {
-            assert!(name::is_prefecture_label(&pieces[1]), "{text:x?}");
+            assert!(name::is_prefecture_label(&pieces[1], Edition::Today), "{text:x?}");
         }
     }
 }
@@ -116,13 +117,13 @@ fn general_use_names_have_two_labels_and_prefecture_names_three() {
 /// ASCII form.
 #[test]
 fn labels_that_are_cut_out_are_those_of_the_ascii_form() {
-    let form = |piece: &Vec<u32>| match piece.iter().any(|code| is_japanese(*code)) {
+    let form = |piece: &Vec<u32>| match piece.iter().any(|code| is_japanese(*code, Edition::Today)) {
         true => format!("xn--{}", encode_by_insertion(piece)),
         false => piece.iter().filter_map(|code| char::from_u32(*code)).collect(),
     };
     for (text, answer) in accepted() {
         let pieces = pieces(&normal_form(&text), &answer.labels);
-        let formed = name::ascii_form(&text).unwrap().form;
+        let formed = name::ascii_form(&text, Edition::Today).unwrap().form;
         let labels: Vec<&str> = formed.split('.').collect();
         assert_eq!(pieces.iter().map(form).collect::<Vec<_>>(), labels, "{text:x?}");
     }
@@ -146,7 +147,7 @@ fn refused_texts_have_no_places() {
     let none = LabelPlaces::default();
     let mut seen = BTreeSet::new();
     for text in texts() {
-        let short = calls::check(&text, &mut [0; 255]);
+        let short = calls::check(&text, Edition::Today.number(), &mut [0; 255]);
         assert_eq!((short.number, short.labels), (1, none), "{text:x?}");
         let answer = checked(&text);
         if answer.number != 0 {
@@ -176,7 +177,7 @@ fn live_check_shows_the_places_of_every_beginning() {
             text.extend(maker.typed_name(&mut random));
         }
         text.extend(points([".", ".jp", "x", "\u{309B}", "-a"][round % 5]));
-        let mut live = Live::fresh();
+        let mut live = Live::fresh(Edition::Today.number());
         for end in 0..=text.len() {
             let (shown, answer) = (live.look(), checked(&text[..end]));
             assert_eq!((shown.number, shown.class), (answer.number, answer.class), "{text:x?}");
@@ -194,9 +195,10 @@ fn live_check_shows_the_places_of_every_beginning() {
 #[test]
 fn the_check_alone_has_places_in_its_answer() {
     for text in ["abc.jp", "\u{3042}.tokyo.jp"].map(points) {
-        let octets = [calls::ascii_form, calls::host_form].map(|call| call(&text, &mut [0; 255]).labels);
+        let form = calls::ascii_form(&text, 4, &mut [0; 192]).labels;
+        let host = calls::host_form(&text, &mut [0; 255]).labels;
         let normal = calls::normal_form(&text, &mut [0; 256]).labels;
-        assert!(octets.into_iter().chain([normal]).all(|labels| labels == LabelPlaces::default()));
+        assert!([form, host, normal].into_iter().all(|labels| labels == LabelPlaces::default()));
         assert_ne!(checked(&text).labels, LabelPlaces::default());
     }
 }
@@ -319,9 +321,13 @@ fn labels_of_every_length_and_every_prefecture_label_come_up() {
     let mut middle = BTreeSet::new();
     for line in lines.iter().filter(|line| CALLS.iter().any(|(call, _)| line.starts_with(*call))) {
         let text = numbers_of(line);
-        let Ok(accepted) = name::check(&text) else { continue };
+        let Ok(accepted) = name::check(&text, Edition::Today) else { continue };
         let leftmost = &accepted.labels[0];
-        lengths.insert((leftmost.len(), name::is_japanese_label(leftmost), accepted.labels.len()));
+        lengths.insert((
+            leftmost.len(),
+            name::is_japanese_label(leftmost, Edition::Today),
+            accepted.labels.len(),
+        ));
         if accepted.labels.len() == 3 && typed_starts(&text)[0] > leftmost.len() + 1 {
             middle.insert(accepted.labels[1].clone());
         }
@@ -341,9 +347,10 @@ fn names_that_are_typed_on_come_up() {
     let lines = cases::all_lines();
     for (call, _lent) in CALLS {
         let texts = lines.iter().filter(|line| line.starts_with(call)).map(|line| numbers_of(line));
-        let was_name = |text: &Vec<u32>| (0..text.len()).any(|end| name::check(&text[..end]).is_ok());
+        let was_name =
+            |text: &Vec<u32>| (0..text.len()).any(|end| name::check(&text[..end], Edition::Today).is_ok());
         let typed_on: Vec<Vec<u32>> = texts.filter(was_name).collect();
-        assert!(typed_on.iter().all(|text| name::check(text).is_err()), "{call}");
+        assert!(typed_on.iter().all(|text| name::check(text, Edition::Today).is_err()), "{call}");
         let long = typed_on.iter().filter(|text| text.len() > 256).count();
         assert!(typed_on.len() > 15 && long > 1, "{call}: {} typed on, {long} long", typed_on.len());
     }

@@ -6,6 +6,7 @@ use reference::cases::hosts::HostMaker;
 use reference::cases::random::NameMaker;
 use reference::chars::is_japanese;
 use reference::coder::encode_by_insertion;
+use reference::edition::Edition;
 use reference::grammar::class_of;
 use reference::host;
 use reference::name::{check, japanese_prefectures, latin_prefectures};
@@ -21,7 +22,7 @@ type Row = (u8, usize);
 const PAIR: Row = (17, 0);
 
 fn is_ascii(label: &str) -> bool {
-    !label.chars().any(|c| is_japanese(c.into()))
+    !label.chars().any(|c| is_japanese(c.into(), Edition::Today))
 }
 
 /// Rows 7 to 10 with 17 after 9: number, and whether it applies to a label that
@@ -31,7 +32,7 @@ fn of_label(label: &str, least: usize, pair_in_any: bool) -> [(u8, bool); 5] {
     let count = label.chars().count();
     let ascii = is_ascii(label);
     let pair = label.chars().skip(2).take(2).collect::<String>() == "--";
-    let excepted = |c: char| !is_japanese(c.into()) || "\u{3006}\u{30FC}\u{30FB}".contains(c);
+    let excepted = |c: char| !is_japanese(c.into(), Edition::Today) || "\u{3006}\u{30FC}\u{30FB}".contains(c);
     [
         (7, label.starts_with('-') || label.ends_with('-')),
         (8, ascii && count < least),
@@ -48,7 +49,7 @@ fn is_prefecture(label: &str) -> bool {
 /// The place of the first unfit character.
 fn unfit(text: &[u32]) -> Option<usize> {
     let ascii = |c: char| c == '-' || c == '.' || c.is_ascii_digit() || c.is_ascii_lowercase();
-    let fits = |code: u32| is_japanese(code) || char::from_u32(code).is_some_and(ascii);
+    let fits = |code: u32| is_japanese(code, Edition::Today) || char::from_u32(code).is_some_and(ascii);
     placed_normal_form(text).iter().find(|placed| !fits(placed.code)).map(|placed| placed.place)
 }
 
@@ -111,7 +112,7 @@ fn applying_to_host(text: &[u32]) -> Vec<Row> {
 
 /// What the check answers; 0 at 0 where it accepts.
 fn answered(text: &[u32]) -> Row {
-    check(text).err().map_or((0, 0), |no| (no.number, no.place))
+    check(text, Edition::Today).err().map_or((0, 0), |no| (no.number, no.place))
 }
 
 fn answered_of_host(text: &[u32]) -> Row {
@@ -176,7 +177,7 @@ fn the_row_of_k3_takes_away_the_names_that_pretend_and_changes_nothing_else() {
             assert_eq!(now, before, "{text:x?}");
         }
         assert_eq!(now == PAIR && before.0 == 0, rows == [PAIR], "{text:x?}");
-        let derived = text.len() <= 256 && class_of(&normal_form(&text)).is_some();
+        let derived = text.len() <= 256 && class_of(&normal_form(&text), Edition::Today).is_some();
         assert_eq!(before.0 == 0, derived, "{text:x?}");
     }
     // Nothing else is taken away: what gets 17 now was accepted, or gets it before 11 or 12.

@@ -6,6 +6,7 @@ use super::hosts::HostMaker;
 use super::random::NameMaker;
 use super::{CaseFile, SEED};
 use crate::chars::PERIOD;
+use crate::edition::Edition;
 use crate::name::{self, is_japanese_label, label_form};
 use crate::normal::{labels, normal_form};
 use crate::random::Random;
@@ -19,7 +20,8 @@ const FEW: usize = 4;
 /// for each of them and for all. None where no label is Japanese.
 pub fn stand_ins(text: &[u32]) -> Vec<Vec<u32>> {
     let labels = labels(&normal_form(text));
-    let japanese: Vec<usize> = (0..labels.len()).filter(|at| is_japanese_label(&labels[*at])).collect();
+    let japanese: Vec<usize> =
+        (0..labels.len()).filter(|at| is_japanese_label(&labels[*at], Edition::Today)).collect();
     let all = (1u64 << japanese.len()) - 1;
     let choices: Vec<u64> = match japanese.len() <= FEW {
         true => (1..=all).collect(),
@@ -28,7 +30,7 @@ pub fn stand_ins(text: &[u32]) -> Vec<Vec<u32>> {
     let typed = |choice: &u64| {
         let mut labels = labels.clone();
         for (_, at) in japanese.iter().enumerate().filter(|(order, _)| choice >> order & 1 == 1) {
-            labels[*at] = points(&label_form(&labels[*at]).expect("a label that has a form"));
+            labels[*at] = points(&label_form(&labels[*at], Edition::Today).expect("a label that has a form"));
         }
         labels.join(&PERIOD)
     };
@@ -49,7 +51,7 @@ pub fn add(file: &mut CaseFile) {
     let (names, hosts) = (NameMaker::default(), HostMaker::default());
     for _ in 0..120 {
         let text = names.typed_name(&mut random);
-        if name::check(&text).is_ok() {
+        if name::check(&text, Edition::Today).is_ok() {
             add_all(file, 'A', 192, &text);
         }
     }
