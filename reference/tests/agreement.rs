@@ -11,7 +11,7 @@ use reference::{cases, chars, coder, grammar, hope, host, name, normal, utf8};
 
 /// The numbers of every case of the calls given.
 fn cases_of(calls: &str) -> Vec<Vec<u32>> {
-    let lines = cases::all_lines();
+    let lines = cases::well_formed_lines();
     let chosen = lines.iter().filter(|line| calls.contains(&line[..1]));
     chosen.map(|line| cases::numbers_of(line)).collect()
 }

@@ -35,7 +35,7 @@ impl Register {
 fn texts(calls: &str, made: impl Fn(&mut Random) -> Vec<u32>) -> Vec<Vec<u32>> {
     let mut random = Random::seeded(44);
     let maker = NameMaker::default();
-    let lines = cases::all_lines();
+    let lines = cases::well_formed_lines();
     let chosen = lines.iter().filter(|line| calls.contains(&line[..1]));
     let mut texts: Vec<Vec<u32>> = chosen.map(|line| cases::numbers_of(line)).collect();
     for _ in 0..20_000 {

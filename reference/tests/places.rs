@@ -21,7 +21,7 @@ const ON_TEXTS: &str = "NCcAaLlJjMRPHhGgVv";
 
 /// The texts of the cases, and random names as typed, each with a damaged copy.
 fn texts() -> Vec<Vec<u32>> {
-    let lines = cases::all_lines();
+    let lines = cases::well_formed_lines();
     let chosen = lines.iter().filter(|line| ON_TEXTS.contains(&line[..1]));
     let mut texts: Vec<Vec<u32>> = chosen.map(|line| numbers_of(line)).collect();
     let mut random = Random::seeded(7);
@@ -256,7 +256,7 @@ fn typed_starts(text: &[u32]) -> Vec<usize> {
 /// not.
 #[test]
 fn the_answers_of_the_cases_are_cut_by_their_words() {
-    let lines = cases::all_lines();
+    let lines = cases::well_formed_lines();
     for line in lines.iter().filter(|line| CALLS.iter().any(|(call, _)| line.starts_with(*call))) {
         let answer = probe::answer(line.as_bytes());
         let words: Vec<&str> = answer.split(' ').collect();
@@ -277,7 +277,7 @@ fn the_answers_of_the_cases_are_cut_by_their_words() {
 /// labels start elsewhere in the text than in the normal form.
 #[test]
 fn the_cases_pin_the_places() {
-    let lines = cases::all_lines();
+    let lines = cases::well_formed_lines();
     for (call, _lent) in CALLS {
         let mut counts = [0; 4];
         let mut refused = BTreeSet::new();
@@ -316,7 +316,7 @@ fn the_cases_pin_the_places() {
 /// that shrinks.
 #[test]
 fn labels_of_every_length_and_every_prefecture_label_come_up() {
-    let lines = cases::all_lines();
+    let lines = cases::well_formed_lines();
     let mut lengths = BTreeSet::new();
     let mut middle = BTreeSet::new();
     for line in lines.iter().filter(|line| CALLS.iter().any(|(call, _)| line.starts_with(*call))) {
@@ -344,7 +344,7 @@ fn labels_of_every_length_and_every_prefecture_label_come_up() {
 /// too. None of them is a name again, so none has places.
 #[test]
 fn names_that_are_typed_on_come_up() {
-    let lines = cases::all_lines();
+    let lines = cases::well_formed_lines();
     for (call, _lent) in CALLS {
         let texts = lines.iter().filter(|line| line.starts_with(call)).map(|line| numbers_of(line));
         let was_name =

@@ -124,7 +124,7 @@ fn first(mut rows: impl Iterator<Item = Row>) -> Row {
 }
 
 fn texts_of_cases(calls: &str) -> Vec<Vec<u32>> {
-    let lines = cases::all_lines();
+    let lines = cases::well_formed_lines();
     lines.iter().filter(|line| calls.contains(&line[..1])).map(|line| cases::numbers_of(line)).collect()
 }
 
