@@ -373,6 +373,7 @@ fn beside_other_refusals(file: &mut CaseFile) {
         // An edition gives the text its own number.
         EDITIONS.for_each(|edition| ask(file, OWN, order + edition as usize, edition, &text));
     }
+    EDITIONS.for_each(|edition| by_all(file, edition, ""));
 }
 
 /// 1 stands before 25, for both buffers.
@@ -516,7 +517,7 @@ fn characters_and_texts(file: &mut CaseFile) {
 }
 
 /// A text with 3003 put in, or in place of a code point.
-fn sprinkled(text: &[u32], random: &mut Random) -> Vec<u32> {
+pub fn sprinkled(text: &[u32], random: &mut Random) -> Vec<u32> {
     let mut text = text.to_vec();
     let at = random.below(text.len());
     match random.once_in(2) {
