@@ -373,7 +373,9 @@ fn beside_other_refusals(file: &mut CaseFile) {
         // An edition gives the text its own number.
         EDITIONS.for_each(|edition| ask(file, OWN, order + edition as usize, edition, &text));
     }
-    EDITIONS.for_each(|edition| by_all(file, edition, ""));
+    for text in ["", ".jp", "abc."] {
+        EDITIONS.for_each(|edition| by_all(file, edition, text));
+    }
 }
 
 /// 1 stands before 25, for both buffers.
