@@ -1,9 +1,10 @@
 //! Two routes to the same answer, held against each other.
 
 use reference::answer::{Class, LabelPlaces, Refusal};
+use reference::cases::editions::sprinkled;
 use reference::cases::hosts::HostMaker;
 use reference::cases::random::{accepted_lines, any_label, NameMaker};
-use reference::edition::Edition;
+use reference::edition::{Edition, EDITIONS};
 use reference::live::Live;
 use reference::name::Formed;
 use reference::random::Random;
@@ -27,24 +28,25 @@ fn pretends(label: &[u32]) -> bool {
 /// The second reader by the numbered rules: none of 7 to 10 applies. 17, which
 /// it does not know, hides none of them: only 10 comes after it, and no label
 /// has both, since the one is of ASCII labels and the other of Japanese ones.
-fn read_by_rules(label: &[u32]) -> bool {
-    let fits = |code: &u32| chars::is_ascii_set(*code) || chars::is_japanese(*code, Edition::Today);
+fn read_by_rules(label: &[u32], edition: Edition) -> bool {
+    let fits = |code: &u32| chars::is_ascii_set(*code) || chars::is_japanese(*code, edition);
     let numbered = |no: Refusal| (7..=10).contains(&no.number);
-    !label.is_empty()
-        && label.iter().all(fits)
-        && !name::check_leftmost(label, Edition::Today).is_err_and(numbered)
+    !label.is_empty() && label.iter().all(fits) && !name::check_leftmost(label, edition).is_err_and(numbered)
 }
 
-/// Three readers agree on a label. Of those that they take, the rules refuse
-/// the ones that pretend, with 17.
+/// Three readers agree on a label, in each edition. Of those that they take, the
+/// rules refuse the ones that pretend, with 17. The second reader is today's.
 fn assert_readers_agree(label: &[u32]) {
-    let answer = grammar::second_reader(label);
-    assert_eq!(answer, grammar::is_label(label, Edition::Today), "{label:x?}");
-    assert_eq!(answer, read_by_rules(label), "{label:x?}");
-    let refused = name::check_leftmost(label, Edition::Today) == Err(Refusal::plain(17));
-    if answer {
-        assert_eq!(refused, pretends(label), "{label:x?}");
+    for edition in EDITIONS {
+        let answer = grammar::reads(label, edition);
+        assert_eq!(answer, grammar::is_label(label, edition), "{edition:?} {label:x?}");
+        assert_eq!(answer, read_by_rules(label, edition), "{edition:?} {label:x?}");
+        let refused = name::check_leftmost(label, edition) == Err(Refusal::plain(17));
+        if answer {
+            assert_eq!(refused, pretends(label), "{edition:?} {label:x?}");
+        }
     }
+    assert_eq!(grammar::second_reader(label), grammar::reads(label, Edition::Today), "{label:x?}");
 }
 
 #[test]
@@ -57,10 +59,10 @@ fn three_readers_of_labels_agree_on_the_cases() {
     }
 }
 
-/// All labels of up to seven characters over one character of each kind.
+/// All labels of up to six characters over one character of each kind, and 3003.
 #[test]
 fn three_readers_of_labels_agree_on_all_short_labels() {
-    let kinds = [0x61, 0x2D, 0x30FB, 0x30FC, 0x3042, 0x20];
+    let kinds = [0x61, 0x2D, 0x30FB, 0x30FC, 0x3042, 0x3003, 0x20];
     let mut labels = vec![vec![]];
     for _ in 0..7 {
         labels.iter().for_each(|label: &Vec<u32>| assert_readers_agree(label));
@@ -69,23 +71,31 @@ fn three_readers_of_labels_agree_on_all_short_labels() {
 }
 
 /// The check accepts what the grammar derives, as the same class, but for the
-/// names whose leftmost label pretends to be encoded.
+/// names whose leftmost label pretends to be encoded. So it is in each edition.
 #[test]
 fn rules_accept_what_the_grammar_derives_and_does_not_pretend() {
     let mut random = Random::seeded(3);
     let maker = NameMaker::default();
     let mut texts = cases_of("NCAL");
-    texts.extend((0..20_000).map(|_| maker.typed_name(&mut random)));
-    let (mut accepted, mut pretending) = (0, 0);
-    for text in texts.iter().filter(|text| name::check_length(text).is_ok()) {
-        let normal = normal::normal_form(text);
-        let derived = grammar::class_of(&normal, Edition::Today);
-        let kept = derived.filter(|_| !pretends(&normal::labels(&normal)[0]));
-        assert_eq!(name::check(text, Edition::Today).ok().map(|name| name.class), kept, "{text:x?}");
-        accepted += usize::from(kept.is_some());
-        pretending += usize::from(derived != kept);
+    for _ in 0..20_000 {
+        let typed = maker.typed_name(&mut random);
+        texts.push(sprinkled(&typed, &mut random));
+        texts.push(typed);
     }
-    assert!(accepted > 10_000 && pretending > 400, "{accepted} accepted, {pretending} pretending");
+    texts.retain(|text| name::check_length(text).is_ok());
+    for edition in EDITIONS {
+        let (mut accepted, mut pretending) = (0, 0);
+        for text in &texts {
+            let normal = normal::normal_form(text);
+            let derived = grammar::class_of(&normal, edition);
+            let kept = derived.filter(|_| !pretends(&normal::labels(&normal)[0]));
+            let class = name::check(text, edition).ok().map(|name| name.class);
+            assert_eq!(class, kept, "{edition:?} {text:x?}");
+            accepted += usize::from(kept.is_some());
+            pretending += usize::from(derived != kept);
+        }
+        assert!(accepted > 10_000 && pretending > 300, "{accepted} accepted, {pretending} pretending");
+    }
 }
 
 /// After a whole label and a period a text may become a name where the second
@@ -97,15 +107,14 @@ fn labels_that_end_a_name_are_those_of_the_grammar() {
     let cases = cases_of("Q");
     for label in cases.iter().map(|numbers| &numbers[6..]).filter(is_plain) {
         let text = [&reference::points("abc."), label].concat();
-        let begins = name::begins_jp(label) || name::begins_prefecture_label(label, Edition::Today);
-        assert_eq!(hope::may_become(&text, Edition::Today), begins, "{label:x?}");
-        assert_eq!(grammar::class_of(&text, Edition::Today).is_some(), name::is_jp(label), "{label:x?}");
         let whole = [&text, &reference::points(".jp")[..]].concat();
-        assert_eq!(
-            grammar::class_of(&whole, Edition::Today).is_some(),
-            name::is_prefecture_label(label, Edition::Today),
-            "{label:x?}"
-        );
+        for edition in EDITIONS {
+            let begins = name::begins_jp(label) || name::begins_prefecture_label(label, edition);
+            assert_eq!(hope::may_become(&text, edition), begins, "{label:x?}");
+            assert_eq!(grammar::class_of(&text, edition).is_some(), name::is_jp(label), "{label:x?}");
+            let is_prefecture = name::is_prefecture_label(label, edition);
+            assert_eq!(grammar::class_of(&whole, edition).is_some(), is_prefecture, "{label:x?}");
+        }
     }
 }
 

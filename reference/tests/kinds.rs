@@ -4,7 +4,7 @@
 
 use reference::cases::random::{accepted_lines, NameMaker};
 use reference::chars::{self, Kind};
-use reference::edition::Edition;
+use reference::edition::{Edition, EDITIONS};
 use reference::random::Random;
 use reference::{batch, cases, coder, name, normal, points, probe};
 use std::collections::{BTreeSet, HashMap};
@@ -20,15 +20,17 @@ const ROW_5: &str = "ァアィイゥウェエォオカガキギクグケゲコ�
     ナニヌネノハバパヒビピフブプヘベペホボポマミムメモャヤュユョヨラリルレロヮワヰヱヲンヴヵヶ";
 
 /// The cells of row 1 that names may have: the middle dot, the marks that repeat,
-/// and the rest but for 3003 in cell 23.
-fn is_sign(cell: usize) -> bool {
-    [6, 19, 20, 21, 22, 24, 25, 26, 27, 28].contains(&cell)
+/// and the rest, with 3003 in cell 23 in edition 1 alone (K12).
+fn is_sign(cell: usize, edition: Edition) -> bool {
+    let first = edition == Edition::Of2003;
+    cell == 6 || (19..=28).contains(&cell) && (cell != 23 || first)
 }
 
 /// Each Japanese character with the letter of its kind, by row and cell.
-fn by_rows() -> Vec<(u32, char)> {
+fn by_rows(edition: Edition) -> Vec<(u32, char)> {
     let of_row = |row: &str, letter: char| row.chars().map(move |c| (u32::from(c), letter)).collect();
-    let signs = ROW_1.chars().zip(1..).filter(|(_, cell)| is_sign(*cell)).map(|(c, _)| (u32::from(c), 'S'));
+    let cells = ROW_1.chars().zip(1..).filter(|(_, cell)| is_sign(*cell, edition));
+    let signs = cells.map(|(c, _)| (u32::from(c), 'S'));
     let mut found: Vec<(u32, char)> = signs.collect();
     found.extend::<Vec<_>>(of_row(ROW_4, 'H'));
     found.extend::<Vec<_>>(of_row(ROW_5, 'K'));
@@ -69,24 +71,28 @@ fn code_points() -> impl Iterator<Item = u32> {
 
 #[test]
 fn the_kind_of_a_character_is_that_of_its_row() {
-    let letter_of: HashMap<u32, char> = by_rows().into_iter().collect();
-    for code in code_points() {
-        let letter = *letter_of.get(&code).unwrap_or(&'-');
-        assert_eq!(Kind::letter(chars::kind(code, Edition::Today)), letter, "{code:x}");
-        assert_eq!(chars::letters(&chars::kinds(&[code], Edition::Today)), letter.to_string(), "{code:x}");
+    for edition in EDITIONS {
+        let letter_of: HashMap<u32, char> = by_rows(edition).into_iter().collect();
+        for code in code_points() {
+            let letter = *letter_of.get(&code).unwrap_or(&'-');
+            assert_eq!(Kind::letter(chars::kind(code, edition)), letter, "{code:x}");
+            assert_eq!(chars::letters(&chars::kinds(&[code], edition)), letter.to_string(), "{code:x}");
+        }
     }
 }
 
-/// The counts of document 01. They add up to as many characters as there are, so
-/// none has two kinds.
+/// The counts of document 01, with one sign more in edition 1. They add up to as many
+/// characters as there are, so none has two kinds.
 #[test]
 fn each_kind_has_its_count_and_no_character_has_two() {
-    let counted = |letter: char| by_rows().iter().filter(|one| one.1 == letter).count();
-    assert_eq!(LETTERS.chars().map(counted).collect::<Vec<_>>(), [83, 86, 6355, 10]);
-    assert_eq!(by_rows().iter().map(|one| one.0).collect::<BTreeSet<_>>().len(), 6534);
-    let own =
-        |kind: Kind| (0..0x30000).filter(|code| chars::kind(*code, Edition::Today) == Some(kind)).count();
-    assert_eq!([Kind::Hiragana, Kind::Katakana, Kind::Kanji, Kind::Sign].map(own), [83, 86, 6355, 10]);
+    for (edition, signs) in EDITIONS.into_iter().zip([11, 10, 10, 10]) {
+        let listed = by_rows(edition);
+        let counted = |letter: char| listed.iter().filter(|one| one.1 == letter).count();
+        assert_eq!(LETTERS.chars().map(counted).collect::<Vec<_>>(), [83, 86, 6355, signs]);
+        assert_eq!(listed.iter().map(|one| one.0).collect::<BTreeSet<_>>().len(), 6524 + signs);
+        let own = |kind: Kind| (0..0x30000).filter(|code| chars::kind(*code, edition) == Some(kind)).count();
+        assert_eq!([Kind::Hiragana, Kind::Katakana, Kind::Kanji, Kind::Sign].map(own), [83, 86, 6355, signs]);
+    }
 }
 
 /// What is a sign is of no other kind, wherever it stands among the code points.
@@ -113,16 +119,20 @@ fn signs_are_no_kana_and_no_kanji() {
     }
 }
 
-/// Yes or no is what it was: membership in the set that document 01 lists.
+/// Yes or no is what it was: membership in the set that document 01 lists, and of 3003
+/// in edition 1.
 #[test]
 fn japanese_is_any_kind_but_none() {
     let mut listed: BTreeSet<u32> = (0x3041..=0x3093).chain(0x30A1..=0x30F6).collect();
     listed.extend(chars::kanji());
     listed.extend(chars::SIGNS);
     assert_eq!(listed.len(), 6534);
-    for code in code_points() {
-        assert_eq!(chars::is_japanese(code, Edition::Today), listed.contains(&code), "{code:x}");
-        assert_eq!(chars::japanese(Edition::Today).contains_key(&code), listed.contains(&code), "{code:x}");
+    for edition in EDITIONS {
+        let is_listed = |code: u32| listed.contains(&code) || edition == Edition::Of2003 && code == 0x3003;
+        for code in code_points() {
+            assert_eq!(chars::is_japanese(code, edition), is_listed(code), "{code:x}");
+            assert_eq!(chars::japanese(edition).contains_key(&code), is_listed(code), "{code:x}");
+        }
     }
 }
 
@@ -192,7 +202,7 @@ fn leftmost(form: &str) -> Vec<u32> {
 /// label by itself.
 #[test]
 fn the_sixth_field_is_of_the_leftmost_label() {
-    let letter_of: HashMap<u32, char> = by_rows().into_iter().collect();
+    let letter_of: HashMap<u32, char> = by_rows(Edition::Today).into_iter().collect();
     let mut seen = BTreeSet::new();
     for line in accepted_lines(20_000, 6) {
         let text = cases::numbers_of(&line);

@@ -5,9 +5,8 @@ use reference::answer::{Answer, Class, LabelPlaces};
 use reference::cases::numbers_of;
 use reference::cases::places::CALLS;
 use reference::cases::random::NameMaker;
-use reference::chars::is_japanese;
 use reference::coder::encode_by_insertion;
-use reference::edition::Edition;
+use reference::edition::{Edition, EDITIONS};
 use reference::live::Live;
 use reference::normal::{labels, normal_form, replaced};
 use reference::random::Random;
@@ -34,16 +33,25 @@ fn texts() -> Vec<Vec<u32>> {
     texts
 }
 
-/// What the check answers, given room.
-fn checked(text: &[u32]) -> Answer {
-    calls::check(text, Edition::Today.number(), &mut [0; 256])
+/// What the check answers by the rules of an edition, given room.
+fn checked_in(text: &[u32], edition: Edition) -> Answer {
+    calls::check(text, edition.number(), &mut [0; 256])
 }
 
-/// The texts that are accepted, and what the check answers.
-fn accepted() -> Vec<(Vec<u32>, Answer)> {
-    let answered = texts().into_iter().map(|text| (text.clone(), checked(&text)));
-    let accepted: Vec<_> = answered.filter(|(_, answer)| answer.number == 0).collect();
-    assert!(accepted.len() > 20_000, "{} accepted", accepted.len());
+/// The same by today's.
+fn checked(text: &[u32]) -> Answer {
+    checked_in(text, Edition::Today)
+}
+
+/// The texts that are accepted in some edition, that edition, and what the check
+/// answers.
+fn accepted() -> Vec<(Vec<u32>, Edition, Answer)> {
+    let texts = texts();
+    let asked = texts.iter().flat_map(|text| EDITIONS.map(|edition| (text, edition)));
+    let answered = asked.map(|(text, edition)| (text.clone(), edition, checked_in(text, edition)));
+    let accepted: Vec<_> = answered.filter(|(_, _, answer)| answer.number == 0).collect();
+    let early = accepted.iter().filter(|(text, ..)| text.contains(&0x3003)).count();
+    assert!(accepted.len() > 80_000 && early > 300, "{} accepted, {early} with 3003", accepted.len());
     accepted
 }
 
@@ -76,7 +84,7 @@ fn without_the_rest(places: &LabelPlaces) -> LabelPlaces {
 
 #[test]
 fn labels_stand_between_the_periods_of_the_normal_form() {
-    for (text, answer) in accepted() {
+    for (text, _, answer) in accepted() {
         let found = between_periods(&normal_form(&text));
         assert_eq!(answer.labels.count, found.len(), "{text:x?}");
         assert_eq!(counted(&answer.labels), found, "{text:x?}");
@@ -89,21 +97,21 @@ fn labels_stand_between_the_periods_of_the_normal_form() {
 /// The pieces are the labels. Joined by periods they give back the normal form.
 #[test]
 fn labels_that_are_cut_out_and_joined_give_back_the_normal_form() {
-    for (text, answer) in accepted() {
+    for (text, edition, answer) in accepted() {
         let normal = normal_form(&text);
         let pieces = pieces(&normal, &answer.labels);
         assert_eq!(pieces.join(&PERIOD), normal, "{text:x?}");
         assert_eq!(pieces, labels(&normal), "{text:x?}");
         assert_eq!(pieces.last(), Some(&points("jp")), "{text:x?}");
         if pieces.len() == 3 {
-            assert!(name::is_prefecture_label(&pieces[1], Edition::Today), "{text:x?}");
+            assert!(name::is_prefecture_label(&pieces[1], edition), "{text:x?}");
         }
     }
 }
 
 #[test]
 fn general_use_names_have_two_labels_and_prefecture_names_three() {
-    for (text, answer) in accepted() {
+    for (text, _, answer) in accepted() {
         let count = match answer.class {
             Some(Class::GeneralUse) => 2,
             Some(Class::Prefecture) => 3,
@@ -117,13 +125,13 @@ fn general_use_names_have_two_labels_and_prefecture_names_three() {
 /// ASCII form.
 #[test]
 fn labels_that_are_cut_out_are_those_of_the_ascii_form() {
-    let form = |piece: &Vec<u32>| match piece.iter().any(|code| is_japanese(*code, Edition::Today)) {
+    let form = |piece: &Vec<u32>| match piece.iter().any(|code| *code >= 0x80) {
         true => format!("xn--{}", encode_by_insertion(piece)),
         false => piece.iter().filter_map(|code| char::from_u32(*code)).collect(),
     };
-    for (text, answer) in accepted() {
+    for (text, edition, answer) in accepted() {
         let pieces = pieces(&normal_form(&text), &answer.labels);
-        let formed = name::ascii_form(&text, Edition::Today).unwrap().form;
+        let formed = name::ascii_form(&text, edition).unwrap().form;
         let labels: Vec<&str> = formed.split('.').collect();
         assert_eq!(pieces.iter().map(form).collect::<Vec<_>>(), labels, "{text:x?}");
     }
@@ -133,9 +141,9 @@ fn labels_that_are_cut_out_are_those_of_the_ascii_form() {
 #[test]
 fn normalising_first_changes_no_place() {
     let mut shorter = 0;
-    for (text, answer) in accepted() {
+    for (text, edition, answer) in accepted() {
         let normal = normal_form(&text);
-        assert_eq!(checked(&normal).labels, answer.labels, "{text:x?}");
+        assert_eq!(checked_in(&normal, edition).labels, answer.labels, "{text:x?}");
         shorter += usize::from(normal.len() < text.len());
     }
     assert!(shorter > 3_000, "{shorter} texts are shorter in normal form");

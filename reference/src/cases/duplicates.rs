@@ -17,11 +17,11 @@ const FEW: usize = 4;
 
 /// The texts that one gets by typing encodings in place of Japanese labels of a
 /// text's normal form: for every choice of these labels where there are few, else
-/// for each of them and for all. None where no label is Japanese.
-pub fn stand_ins(text: &[u32]) -> Vec<Vec<u32>> {
+/// for each of them and for all. None where no label is Japanese in the edition.
+pub fn stand_ins(text: &[u32], edition: Edition) -> Vec<Vec<u32>> {
     let labels = labels(&normal_form(text));
     let japanese: Vec<usize> =
-        (0..labels.len()).filter(|at| is_japanese_label(&labels[*at], Edition::Today)).collect();
+        (0..labels.len()).filter(|at| is_japanese_label(&labels[*at], edition)).collect();
     let all = (1u64 << japanese.len()) - 1;
     let choices: Vec<u64> = match japanese.len() <= FEW {
         true => (1..=all).collect(),
@@ -30,7 +30,7 @@ pub fn stand_ins(text: &[u32]) -> Vec<Vec<u32>> {
     let typed = |choice: &u64| {
         let mut labels = labels.clone();
         for (_, at) in japanese.iter().enumerate().filter(|(order, _)| choice >> order & 1 == 1) {
-            labels[*at] = points(&label_form(&labels[*at], Edition::Today).expect("a label that has a form"));
+            labels[*at] = points(&label_form(&labels[*at], edition).expect("a label that has a form"));
         }
         labels.join(&PERIOD)
     };
@@ -41,7 +41,7 @@ pub fn stand_ins(text: &[u32]) -> Vec<Vec<u32>> {
 fn add_all(file: &mut CaseFile, call: char, lent: usize, text: &[u32]) {
     file.add(call, lent, text);
     file.add(call, lent, &normal_form(text));
-    for other in stand_ins(text) {
+    for other in stand_ins(text, Edition::Today) {
         file.add(call, lent, &other);
     }
 }
