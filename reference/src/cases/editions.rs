@@ -146,13 +146,19 @@ fn by_all(file: &mut CaseFile, edition: u32, text: &str) {
     (0..4).for_each(|which| ask(file, LENT, which, edition, &points(text)));
 }
 
+/// The next turn of so many, one further on after each round, so that no edition meets
+/// the same calls always.
+fn next_turn(file: &mut CaseFile, of: usize) -> usize {
+    file.turn += 1;
+    (file.turn + file.turn / of) % of
+}
+
 /// The check, and one of the other calls in its turn.
 fn by_two(file: &mut CaseFile, edition: u32, text: &str) {
-    file.turn += 1;
-    let which = file.turn;
+    let which = next_turn(file, 6);
     let text = points(text);
     ask(file, LENT, 0, edition, &text);
-    match which % 6 {
+    match which {
         other @ 0..=2 => ask(file, LENT, other + 1, edition, &text),
         other => ask(file, OWN, other - 2, edition, &text),
     }
@@ -160,9 +166,8 @@ fn by_two(file: &mut CaseFile, edition: u32, text: &str) {
 
 /// One of the eight calls in its turn.
 fn in_turn(file: &mut CaseFile, edition: u32, text: &[u32]) {
-    file.turn += 1;
-    let which = file.turn;
-    ask(file, if which % 8 < 4 { LENT } else { OWN }, which, edition, text);
+    let which = next_turn(file, 8);
+    ask(file, if which < 4 { LENT } else { OWN }, which, edition, text);
 }
 
 /// The tried names of both documents by every call, and the errors that the rules
