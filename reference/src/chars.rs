@@ -55,7 +55,8 @@ pub fn kanji_in_rows() -> Vec<u32> {
 }
 
 /// All Japanese characters of an edition and their kinds. The counts that document
-/// 01 gives are checked here, one more in edition 1; they add up, so no character has two kinds.
+/// 01 gives are checked here, with one sign more in edition 1; they add up, so no
+/// character has two kinds.
 pub fn japanese(edition: Edition) -> &'static HashMap<u32, Kind> {
     static JAPANESE: [OnceLock<HashMap<u32, Kind>>; EDITIONS.len()] = [const { OnceLock::new() }; 4];
     JAPANESE[edition.order()].get_or_init(|| {

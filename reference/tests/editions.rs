@@ -533,6 +533,19 @@ fn each_prefecture_label_comes_up_in_each_edition() {
             assert!(all.iter().all(|word| found.contains(&points(word))), "{begun}");
         }
     }
+    // What tells the editions apart comes up by each call that judges, in each edition.
+    for begun in JUDGING.chars().flat_map(|call| [1, 2, 3, 4].map(|edition| format!("{call}{edition} "))) {
+        let texts: Vec<Vec<u32>> = lines
+            .iter()
+            .filter(|line| line.starts_with(&begun))
+            .map(|line| normal_form(&numbers_of(line)))
+            .collect();
+        let three = texts.iter().map(|text| labels(text)).filter(|labels| labels.len() == 3);
+        let middle: Vec<Vec<u32>> = three.map(|mut labels| labels.swap_remove(1)).collect();
+        assert!(texts.iter().any(|text| text.contains(&EARLY_SIGN)), "{begun}");
+        assert!(middle.iter().any(|label| is_japanese_prefecture(label)), "{begun}");
+        assert!(middle.iter().any(|label| name::is_prefecture_label(label, Edition::Of2012)), "{begun}");
+    }
     for edition in 0..=5 {
         let begun = format!("Q{edition} ");
         let answers =

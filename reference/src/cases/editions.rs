@@ -280,7 +280,8 @@ fn all_prefectures() -> Vec<String> {
     [latin_prefectures(), japanese_prefectures()].concat()
 }
 
-/// Each prefecture label in each edition, by the check and the ASCII form.
+/// Each prefecture label in each edition, by the check and the ASCII form, and by one of
+/// the other calls.
 fn prefectures(file: &mut CaseFile) {
     for (order, word) in all_prefectures().iter().enumerate() {
         let text = points(&format!("{}.{word}.jp", ["abc", "\u{3042}"][order % 2]));
@@ -288,7 +289,8 @@ fn prefectures(file: &mut CaseFile) {
             file.add_in('C', edition, 256, &text);
             file.add_in('A', edition, 192, &text);
         }
-        file.add_in(['L', 'J'][order % 2], 1 + order as u32 % 4, 0, &text);
+        let (call, lent) = [('L', 0), ('J', 0), ('c', 256), ('l', 0), ('j', 0), ('a', 192)][order % 6];
+        file.add_in(call, 1 + order as u32 / 6 % 4, lent, &text);
         if order % 8 == 0 {
             let spelled = points(&format!("abc.{}\u{3002}JP", super::names::wide(&word.to_uppercase())));
             EDITIONS.for_each(|edition| in_turn(file, edition, &spelled));
