@@ -20,7 +20,7 @@ impl Class {
     }
 }
 
-/// A refusal: its number (1 to 17, or 19) and its place.
+/// A refusal: its number (1 to 17, 19 or 25) and its place.
 #[derive(Clone, Copy, Debug, PartialEq, Eq)]
 pub struct Refusal {
     pub number: u8,

@@ -1,7 +1,8 @@
-//! The batch: lines of an id, a tab and a name.
+//! The batch: lines of an id, a tab and a name, which is judged by today's edition.
 
 use crate::answer::Class;
 use crate::chars::letters;
+use crate::edition::Edition;
 use crate::name::{self, Formed};
 use crate::utf8;
 
@@ -24,7 +25,7 @@ pub fn answer_line(line: &[u8]) -> String {
     let Some((id, text)) = read_line(line) else {
         return "-\t16\t0\t-\t-\t-".to_string();
     };
-    match name::ascii_form(&text) {
+    match name::ascii_form(&text, Edition::Today) {
         Ok(Formed { form, class, kinds }) => {
             format!("{id}\t0\t0\t{}\t{form}\t{}", Class::letter(Some(class)), letters(&kinds))
         }

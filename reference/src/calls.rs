@@ -1,5 +1,6 @@
 //! The calls with lent buffers. A refused call leaves its buffer untouched;
-//! an accepted one writes its start alone.
+//! an accepted one writes its start alone. The edition that some of them take is any
+//! number.
 
 use crate::answer::{Answer, Class, LabelPlaces, Refusal};
 use crate::batch;
@@ -36,10 +37,10 @@ pub fn normal_form(text: &[u32], buffer: &mut [u32]) -> Answer {
 }
 
 /// The one call that tells where the labels stand.
-pub fn check(text: &[u32], buffer: &mut [u32]) -> Answer {
+pub fn check(text: &[u32], edition: u32, buffer: &mut [u32]) -> Answer {
     let mut labels = LabelPlaces::default();
     let answer = lend(buffer, 256, || {
-        let accepted = name::check(text)?;
+        let accepted = name::check(text, name::check_edition(edition)?)?;
         labels = accepted.places;
         Ok((accepted.normal, Some(accepted.class)))
     });
@@ -47,10 +48,10 @@ pub fn check(text: &[u32], buffer: &mut [u32]) -> Answer {
 }
 
 /// The one call that tells kinds.
-pub fn ascii_form(text: &[u32], buffer: &mut [u8]) -> Answer {
+pub fn ascii_form(text: &[u32], edition: u32, buffer: &mut [u8]) -> Answer {
     let mut kinds = Kinds::new();
     let answer = lend(buffer, 192, || {
-        let formed = name::ascii_form(text)?;
+        let formed = name::ascii_form(text, name::check_edition(edition)?)?;
         kinds = formed.kinds;
         Ok((formed.form.into_bytes(), Some(formed.class)))
     });

@@ -1,5 +1,7 @@
-//! The characters: ASCII set, period, Japanese characters and their kinds.
+//! The characters: ASCII set, period, Japanese characters and their kinds. Which
+//! characters are Japanese is asked of an edition (K12).
 
+use crate::edition::{Edition, EDITIONS};
 use std::collections::{BTreeSet, HashMap};
 use std::sync::OnceLock;
 
@@ -12,6 +14,9 @@ const ROWS: &str = include_str!("../kanji.txt");
 
 /// The ten signs of row 1, as code points: the documents' print is unsure.
 pub const SIGNS: [u32; 10] = [0x30FB, 0x30FD, 0x30FE, 0x309D, 0x309E, 0x4EDD, 0x3005, 0x3006, 0x3007, 0x30FC];
+
+/// The sign in cell 1-23, which edition 1 has besides (K12).
+pub const EARLY_SIGN: u32 = 0x3003;
 
 /// The kind of a Japanese character (K6), in the order in which kinds are printed.
 #[derive(Clone, Copy, Debug, PartialEq, Eq, PartialOrd, Ord)]
@@ -49,11 +54,12 @@ pub fn kanji_in_rows() -> Vec<u32> {
         .collect()
 }
 
-/// All Japanese characters and their kinds. The counts that document 01 gives
-/// are checked here; they add up, so no character has two kinds.
-pub fn japanese() -> &'static HashMap<u32, Kind> {
-    static JAPANESE: OnceLock<HashMap<u32, Kind>> = OnceLock::new();
-    JAPANESE.get_or_init(|| {
+/// All Japanese characters of an edition and their kinds. The counts that document
+/// 01 gives are checked here, with one sign more in edition 1; they add up, so no
+/// character has two kinds.
+pub fn japanese(edition: Edition) -> &'static HashMap<u32, Kind> {
+    static JAPANESE: [OnceLock<HashMap<u32, Kind>>; EDITIONS.len()] = [const { OnceLock::new() }; 4];
+    JAPANESE[edition.order()].get_or_init(|| {
         let hiragana = ('ぁ'..='ん').map(u32::from).collect();
         let katakana = ('ァ'..='ヶ').map(u32::from).collect();
         let mut all = HashMap::new();
@@ -64,27 +70,27 @@ pub fn japanese() -> &'static HashMap<u32, Kind> {
         list(Kind::Hiragana, hiragana, 83);
         list(Kind::Katakana, katakana, 86);
         list(Kind::Kanji, kanji().iter().copied().collect(), 6355);
-        list(Kind::Sign, SIGNS.to_vec(), 10);
-        assert_eq!(all.len(), 6534);
+        list(Kind::Sign, edition.signs(), [11, 10, 10, 10][edition.order()]);
+        assert_eq!(all.len(), [6535, 6534, 6534, 6534][edition.order()]);
         all
     })
 }
 
 /// The kind of a code point, or none where it is not Japanese.
-pub fn kind(code: u32) -> Option<Kind> {
-    japanese().get(&code).copied()
+pub fn kind(code: u32, edition: Edition) -> Option<Kind> {
+    japanese(edition).get(&code).copied()
 }
 
 /// Any kind but none.
-pub fn is_japanese(code: u32) -> bool {
-    kind(code).is_some()
+pub fn is_japanese(code: u32, edition: Edition) -> bool {
+    kind(code, edition).is_some()
 }
 
 pub type Kinds = BTreeSet<Kind>;
 
 /// The kinds found among some characters. What is unfit has no kind.
-pub fn kinds(characters: &[u32]) -> Kinds {
-    characters.iter().filter_map(|code| kind(*code)).collect()
+pub fn kinds(characters: &[u32], edition: Edition) -> Kinds {
+    characters.iter().filter_map(|code| kind(*code, edition)).collect()
 }
 
 /// The letters of some kinds as a word, or - where there is none.

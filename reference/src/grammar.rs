@@ -1,9 +1,11 @@
-//! Labels and names read by the grammar of document 004. Nothing here knows
-//! the numbered rules: the tests hold the two against each other.
+//! Labels and names read by the grammar of document 004, with the characters and the
+//! prefecture labels of an edition (K12). Nothing here knows the numbered rules: the
+//! tests hold the two against each other.
 
 use crate::answer::Class;
 use crate::chars::{is_japanese, is_letter_or_digit, HYPHEN, MIDDLE_DOT};
 use crate::coder::encode_by_insertion;
+use crate::edition::Edition;
 use crate::name::is_prefecture_label;
 use crate::normal::labels;
 use crate::points;
@@ -18,9 +20,9 @@ struct Seen {
 }
 
 impl Seen {
-    fn note(&mut self, code: u32) {
+    fn note(&mut self, code: u32, edition: Edition) {
         self.count += 1;
-        if is_japanese(code) {
+        if is_japanese(code, edition) {
             self.japanese = true;
             self.middle_dot |= code == MIDDLE_DOT;
             self.beyond_exceptions |= ![0x3006, 0x30FC, MIDDLE_DOT].contains(&code);
@@ -56,14 +58,14 @@ pub struct Reader {
 
 impl Reader {
     /// The reader one character on, or none where no label goes on so.
-    pub fn step(mut self, code: u32) -> Option<Reader> {
-        let character = is_letter_or_digit(code) || is_japanese(code);
+    pub fn step(mut self, code: u32, edition: Edition) -> Option<Reader> {
+        let character = is_letter_or_digit(code) || is_japanese(code, edition);
         self.standing = match self.standing {
             _ if character => Standing::AfterCharacter,
             Standing::AfterCharacter | Standing::AfterHyphen if code == HYPHEN => Standing::AfterHyphen,
             _ => return None,
         };
-        self.seen.note(code);
+        self.seen.note(code, edition);
         Some(self)
     }
 
@@ -74,24 +76,29 @@ impl Reader {
 }
 
 /// The second reader at the end of what was begun of a label.
-pub fn read(begun: &[u32]) -> Option<Reader> {
-    begun.iter().try_fold(Reader::default(), |reader, code| reader.step(*code))
+pub fn read(begun: &[u32], edition: Edition) -> Option<Reader> {
+    begun.iter().try_fold(Reader::default(), |reader, code| reader.step(*code, edition))
 }
 
-/// The second reader of labels.
+/// The same machine of a whole label, by the characters of an edition.
+pub fn reads(label: &[u32], edition: Edition) -> bool {
+    read(label, edition).is_some_and(|reader| reader.may_end())
+}
+
+/// The second reader of labels, which stays with today's edition.
 pub fn second_reader(label: &[u32]) -> bool {
-    read(label).is_some_and(|reader| reader.may_end())
+    reads(label, Edition::Today)
 }
 
 /// Spells a label in letters for the grammar's kinds: a ALNUM, - hyphen,
 /// m MIDDLE-DOT, x another EXCEPTION-char, j another JA-char, ? none.
-fn spell(label: &[u32]) -> String {
+fn spell(label: &[u32], edition: Edition) -> String {
     let kind = |code: &u32| match *code {
         HYPHEN => '-',
         MIDDLE_DOT => 'm',
         0x3006 | 0x30FC => 'x',
         c if is_letter_or_digit(c) => 'a',
-        c if is_japanese(c) => 'j',
+        c if is_japanese(c, edition) => 'j',
         _ => '?',
     };
     label.iter().map(kind).collect()
@@ -132,8 +139,8 @@ fn is_exception_string(spelled: &str) -> bool {
 }
 
 /// A label by the grammar as it is printed, alternative by alternative.
-pub fn is_label(label: &[u32]) -> bool {
-    let spelled = spell(label);
+pub fn is_label(label: &[u32], edition: Edition) -> bool {
+    let spelled = spell(label, edition);
     let ja = is_ja_label(&spelled) && spelled.len() <= 15 && !is_exception_string(&spelled);
     is_ascii_label(&spelled) || ja
 }
@@ -141,9 +148,9 @@ pub fn is_label(label: &[u32]) -> bool {
 /// A label of a host (K10): a label of 004, or one or two ALNUM, which 004 has
 /// not; and none that has hyphens in its third and fourth places.
 pub fn is_host_label(label: &[u32]) -> bool {
-    let spelled = spell(label);
+    let spelled = spell(label, Edition::Today);
     let short = ["a", "aa"].contains(&spelled.as_str());
-    (short || is_label(label)) && spelled.get(2..4) != Some("--")
+    (short || is_label(label, Edition::Today)) && spelled.get(2..4) != Some("--")
 }
 
 /// A host in normal form: three such labels or more whose ASCII forms, joined
@@ -155,7 +162,7 @@ pub fn is_host(normal: &[u32]) -> bool {
 
 /// How many octets the joined ASCII form of some labels has.
 pub fn host_octets(parts: &[Vec<u32>]) -> usize {
-    let octets = |label: &Vec<u32>| match label.iter().any(|code| is_japanese(*code)) {
+    let octets = |label: &Vec<u32>| match label.iter().any(|code| is_japanese(*code, Edition::Today)) {
         true => "xn--".len() + encode_by_insertion(label).len(),
         false => label.len(),
     };
@@ -163,15 +170,17 @@ pub fn host_octets(parts: &[Vec<u32>]) -> usize {
 }
 
 /// The class of a normal form by the grammar, or none.
-pub fn class_of(normal: &[u32]) -> Option<Class> {
+pub fn class_of(normal: &[u32], edition: Edition) -> Option<Class> {
     let parts = labels(normal);
     let (last, front) = parts.split_last()?;
     if *last != points("jp") {
         return None;
     }
     match front {
-        [label] if is_label(label) => Some(Class::GeneralUse),
-        [label, middle] if is_label(label) && is_prefecture_label(middle) => Some(Class::Prefecture),
+        [label] if is_label(label, edition) => Some(Class::GeneralUse),
+        [label, middle] if is_label(label, edition) && is_prefecture_label(middle, edition) => {
+            Some(Class::Prefecture)
+        }
         _ => None,
     }
 }

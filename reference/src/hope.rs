@@ -1,5 +1,5 @@
-//! Whether a text may yet become a name: whether the check accepts it with
-//! something, or nothing, typed after it.
+//! Whether a text may yet become a name: whether the check accepts it, by the rules of
+//! an edition, with something, or nothing, typed after it.
 //!
 //! No continuation is put to the check. The grammar is asked what it still
 //! lets follow:
@@ -7,8 +7,9 @@
 //! - Before the first period the second reader goes on from where it stands,
 //!   by every kind of character, up to the longest label. Where one of these
 //!   ways comes to the end of a label that may be leftmost, ".jp" may follow.
-//! - From the first period on, a name ends in one of 95 ways. The label before
-//!   must be whole, and the rest the beginning of one of them.
+//! - From the first period on, a name ends in one of 95 ways today, of 48 in edition
+//!   3, and in one way in editions 1 and 2. The label before must be whole, and the
+//!   rest the beginning of such an ending.
 //!
 //! The second reader keeps to document 004. Beside it each way remembers what
 //! K3 asks: a label with hyphens in its third and fourth places is leftmost
@@ -25,8 +26,8 @@
 //! are only thirty.
 
 use crate::chars::{is_japanese, HYPHEN, MIDDLE_DOT, PERIOD};
+use crate::edition::{Edition, EDITIONS};
 use crate::grammar::Reader;
-use crate::name::{japanese_prefectures, latin_prefectures};
 use crate::normal::normal_form;
 use crate::points;
 use std::collections::HashSet;
@@ -35,15 +36,14 @@ use std::sync::OnceLock;
 const LONGEST_LABEL: usize = 63;
 
 /// One character of every kind in document 01. The reader looks at the kind
-/// alone.
+/// alone, and 3003 is one more of the kind of 3005 in edition 1.
 const KINDS: [u32; 10] = [0x61, 0x30, HYPHEN, 0x3042, 0x30A2, 0x4E9C, 0x3005, 0x3006, 0x30FC, MIDDLE_DOT];
 
 /// All that may follow the leftmost label.
-fn endings() -> &'static Vec<Vec<u32>> {
-    static ENDINGS: OnceLock<Vec<Vec<u32>>> = OnceLock::new();
-    ENDINGS.get_or_init(|| {
-        let prefectures = latin_prefectures().into_iter().chain(japanese_prefectures());
-        let with_prefecture = prefectures.map(|label| format!(".{label}.jp"));
+fn endings(edition: Edition) -> &'static Vec<Vec<u32>> {
+    static ENDINGS: [OnceLock<Vec<Vec<u32>>>; EDITIONS.len()] = [const { OnceLock::new() }; 4];
+    ENDINGS[edition.order()].get_or_init(|| {
+        let with_prefecture = edition.prefectures().into_iter().map(|label| format!(".{label}.jp"));
         with_prefecture.chain([".jp".to_string()]).map(|ending| points(&ending)).collect()
     })
 }
@@ -60,11 +60,11 @@ struct Way {
 
 impl Way {
     /// The way one character on, or none where no label goes on so.
-    fn step(mut self, code: u32) -> Option<Way> {
-        self.reader = self.reader.step(code)?;
+    fn step(mut self, code: u32, edition: Edition) -> Option<Way> {
+        self.reader = self.reader.step(code, edition)?;
         self.length += 1;
         self.set_aside += usize::from(code == HYPHEN && (3..=4).contains(&self.length));
-        self.japanese |= is_japanese(code);
+        self.japanese |= is_japanese(code, edition);
         Some(self)
     }
 
@@ -77,33 +77,36 @@ impl Way {
 }
 
 /// The way through what was begun of a label.
-fn read(begun: &[u32]) -> Option<Way> {
-    begun.iter().try_fold(Way::default(), |way, code| way.step(*code))
+fn read(begun: &[u32], edition: Edition) -> Option<Way> {
+    begun.iter().try_fold(Way::default(), |way, code| way.step(*code, edition))
 }
 
 /// Whether characters can follow that make a leftmost label of what was begun.
-fn may_become_label(begun: &[u32]) -> bool {
-    let mut ways: HashSet<Way> = read(begun).into_iter().collect();
+fn may_become_label(begun: &[u32], edition: Edition) -> bool {
+    let mut ways: HashSet<Way> = read(begun, edition).into_iter().collect();
     for _length in begun.len()..=LONGEST_LABEL {
         if ways.iter().any(Way::may_end) {
             return true;
         }
-        let go_on = |way: &Way| KINDS.map(|code| way.step(code));
+        let go_on = |way: &Way| KINDS.map(|code| way.step(code, edition));
         ways = ways.iter().flat_map(go_on).flatten().collect();
     }
     false
 }
 
-fn is_leftmost_label(label: &[u32]) -> bool {
-    read(label).is_some_and(|way| way.may_end())
+fn is_leftmost_label(label: &[u32], edition: Edition) -> bool {
+    read(label, edition).is_some_and(|way| way.may_end())
 }
 
-pub fn may_become(text: &[u32]) -> bool {
+pub fn may_become(text: &[u32], edition: Edition) -> bool {
     let normal = normal_form(text);
     let end = normal.iter().position(|code| *code == PERIOD).unwrap_or(normal.len());
     let (label, rest) = normal.split_at(end);
     match rest.is_empty() {
-        true => may_become_label(label),
-        false => is_leftmost_label(label) && endings().iter().any(|ending| ending.starts_with(rest)),
+        true => may_become_label(label, edition),
+        false => {
+            let mut endings = endings(edition).iter();
+            is_leftmost_label(label, edition) && endings.any(|ending| ending.starts_with(rest))
+        }
     }
 }

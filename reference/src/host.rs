@@ -1,7 +1,9 @@
 //! The rules of nameserver host names in the order of document 02's K10, over
-//! the same first rules and the same rules of labels as names.
+//! the same first rules and the same rules of labels as names. Hosts stay with today's
+//! edition (K12).
 
 use crate::answer::Refusal;
+use crate::edition::Edition;
 use crate::name::{check_empty, check_label, label_form, read, Family};
 use crate::normal::labels;
 
@@ -15,17 +17,17 @@ const LONGEST_FORM: usize = 253;
 /// 9, 17 and 10, then 14, then 19. An empty label is refused with 6, so 8 never
 /// comes.
 pub fn ascii_form(text: &[u32]) -> Result<String, Refusal> {
-    let labels = labels(&read(text)?);
+    let labels = labels(&read(text, Edition::Today)?);
     if labels.len() < FEWEST_LABELS {
         return Err(Refusal::plain(5));
     }
     check_empty(&labels)?;
     for (index, label) in labels.iter().enumerate() {
-        check_label(label, OF_HOSTS, index)?;
+        check_label(label, OF_HOSTS, Edition::Today, index)?;
     }
     let mut parts = Vec::new();
     for (index, label) in labels.iter().enumerate() {
-        parts.push(label_form(label).map_err(|no| Refusal::at(no.number, index))?);
+        parts.push(label_form(label, Edition::Today).map_err(|no| Refusal::at(no.number, index))?);
     }
     let form = parts.join(".");
     if form.len() > LONGEST_FORM {

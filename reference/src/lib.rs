@@ -9,6 +9,7 @@ pub mod cases;
 pub mod chars;
 pub mod coder;
 pub mod count;
+pub mod edition;
 pub mod grammar;
 pub mod hope;
 pub mod host;

@@ -3,16 +3,22 @@
 //! where the labels stand, as the check does (K7). A look at a host shows what the
 //! rules of hosts say instead. It also says whether what was read may yet become
 //! a name.
+//!
+//! The fresh state is given an edition (K12), any number, and keeps it. Where that is
+//! none, a look shows 25, and no text may become a name. A look at a host stays with
+//! today's edition, whatever the state was given.
 
 use crate::answer::{Class, LabelPlaces, Refusal};
+use crate::edition::Edition;
 use crate::hope;
 use crate::host;
 use crate::name::{self, LONGEST_TEXT};
 use crate::normal::normal_form;
 
 /// What was read, as far as it matters: after 257 code points nothing does.
-#[derive(Clone, Debug, Default, PartialEq, Eq)]
+#[derive(Clone, Debug, PartialEq, Eq)]
 pub struct Live {
+    edition: u32,
     read: Vec<u32>,
 }
 
@@ -28,8 +34,8 @@ pub struct Shown {
 }
 
 impl Live {
-    pub fn fresh() -> Live {
-        Live::default()
+    pub fn fresh(edition: u32) -> Live {
+        Live { edition, read: Vec::new() }
     }
 
     pub fn step(&mut self, code: u32) {
@@ -40,7 +46,7 @@ impl Live {
 
     /// What the check says.
     pub fn look(&self) -> Shown {
-        let checked = name::check(&self.read);
+        let checked = name::check_edition(self.edition).and_then(|edition| name::check(&self.read, edition));
         let labels = checked.as_ref().map(|accepted| accepted.places).unwrap_or_default();
         let shown = self.show(checked.map(|accepted| Some(accepted.class)));
         Shown { labels, ..shown }
@@ -67,6 +73,6 @@ impl Live {
     }
 
     pub fn may_become(&self) -> bool {
-        hope::may_become(&self.read)
+        Edition::numbered(self.edition).is_some_and(|edition| hope::may_become(&self.read, edition))
     }
 }

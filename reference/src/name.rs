@@ -1,8 +1,10 @@
-//! The name rules in the order of document 01, with row 17 of document 02's K3.
+//! The name rules in the order of document 01, with row 17 of document 02's K3 and
+//! row 25 of its K12. What an edition decides is asked of it.
 
 use crate::answer::{Class, LabelPlaces, Refusal};
 use crate::chars::{is_ascii_set, is_japanese, kinds, Kinds, HYPHEN, MIDDLE_DOT, PERIOD};
 use crate::coder;
+use crate::edition::{Edition, EDITIONS};
 use crate::normal::{labels, normal_form, placed_normal_form};
 use crate::points;
 use std::collections::HashSet;
@@ -54,24 +56,31 @@ pub fn japanese_prefectures() -> Vec<String> {
     words.map(String::from).collect()
 }
 
-fn prefectures() -> &'static HashSet<Vec<u32>> {
-    static LABELS: OnceLock<HashSet<Vec<u32>>> = OnceLock::new();
-    LABELS.get_or_init(|| {
-        let mut words = latin_prefectures();
-        words.extend(japanese_prefectures());
-        let labels: HashSet<Vec<u32>> = words.iter().map(|word| points(word)).collect();
-        assert_eq!(labels.len(), 94);
+/// The prefecture labels of an edition: none, 47 or 94.
+fn prefectures(edition: Edition) -> &'static HashSet<Vec<u32>> {
+    static LABELS: [OnceLock<HashSet<Vec<u32>>>; EDITIONS.len()] = [const { OnceLock::new() }; 4];
+    LABELS[edition.order()].get_or_init(|| {
+        let labels: HashSet<Vec<u32>> = edition.prefectures().iter().map(|word| points(word)).collect();
+        assert_eq!(labels.len(), [0, 0, 47, 94][edition.order()]);
         labels
     })
 }
 
-pub fn is_prefecture_label(label: &[u32]) -> bool {
-    prefectures().contains(label)
+pub fn is_prefecture_label(label: &[u32], edition: Edition) -> bool {
+    prefectures(edition).contains(label)
 }
 
-/// Whether one of the 94 begins with these characters, or is them.
-pub fn begins_prefecture_label(begun: &[u32]) -> bool {
-    prefectures().iter().any(|label| label.starts_with(begun))
+/// Whether one of the prefecture labels begins with these characters, or is them.
+pub fn begins_prefecture_label(begun: &[u32], edition: Edition) -> bool {
+    prefectures(edition).iter().any(|label| label.starts_with(begun))
+}
+
+/// So many labels a name has at most: three where there are prefecture names.
+fn most_labels(edition: Edition) -> usize {
+    match prefectures(edition).is_empty() {
+        true => 2,
+        false => 3,
+    }
 }
 
 pub fn is_jp(label: &[u32]) -> bool {
@@ -83,8 +92,13 @@ pub fn begins_jp(begun: &[u32]) -> bool {
     points("jp").starts_with(begun)
 }
 
-pub fn is_japanese_label(label: &[u32]) -> bool {
-    label.iter().any(|code| is_japanese(*code))
+pub fn is_japanese_label(label: &[u32], edition: Edition) -> bool {
+    label.iter().any(|code| is_japanese(*code, edition))
+}
+
+/// Refusal 25, which comes before all that is asked of the text.
+pub fn check_edition(number: u32) -> Result<Edition, Refusal> {
+    Edition::numbered(number).ok_or(Refusal::plain(25))
 }
 
 /// Refusals 2 and 3.
@@ -97,30 +111,30 @@ pub fn check_length(text: &[u32]) -> Result<(), Refusal> {
 }
 
 /// What a label may hold.
-pub fn may_be_in_label(code: u32) -> bool {
-    is_ascii_set(code) || is_japanese(code)
+pub fn may_be_in_label(code: u32, edition: Edition) -> bool {
+    is_ascii_set(code) || is_japanese(code, edition)
 }
 
-fn is_permitted(code: u32) -> bool {
-    code == PERIOD || may_be_in_label(code)
+fn is_permitted(code: u32, edition: Edition) -> bool {
+    code == PERIOD || may_be_in_label(code, edition)
 }
 
 /// The index of the first character that is not permitted, or the length.
-pub fn first_unfit(normal: &[u32]) -> usize {
-    normal.iter().position(|code| !is_permitted(*code)).unwrap_or(normal.len())
+pub fn first_unfit(normal: &[u32], edition: Edition) -> usize {
+    normal.iter().position(|code| !is_permitted(*code, edition)).unwrap_or(normal.len())
 }
 
 /// The place in a text of the first character of its normal form that is not
 /// permitted.
-pub fn unfit_place(text: &[u32]) -> Option<usize> {
-    placed_normal_form(text).iter().find(|c| !is_permitted(c.code)).map(|c| c.place)
+pub fn unfit_place(text: &[u32], edition: Edition) -> Option<usize> {
+    placed_normal_form(text).iter().find(|c| !is_permitted(c.code, edition)).map(|c| c.place)
 }
 
 /// The normal form of a text, after refusals 2 to 4, which are asked of every
 /// text first.
-pub fn read(text: &[u32]) -> Result<Vec<u32>, Refusal> {
+pub fn read(text: &[u32], edition: Edition) -> Result<Vec<u32>, Refusal> {
     check_length(text)?;
-    match unfit_place(text) {
+    match unfit_place(text, edition) {
         Some(place) => Err(Refusal::at(4, place)),
         None => Ok(normal_form(text)),
     }
@@ -142,12 +156,12 @@ pub fn label_end(normal: &[u32], from: usize) -> usize {
 }
 
 /// A Japanese character beside which a middle dot may stand.
-pub fn is_ordinary(code: u32) -> bool {
-    is_japanese(code) && ![0x3006, 0x30FC, MIDDLE_DOT].contains(&code)
+pub fn is_ordinary(code: u32, edition: Edition) -> bool {
+    is_japanese(code, edition) && ![0x3006, 0x30FC, MIDDLE_DOT].contains(&code)
 }
 
-fn breaks_middle_dot_rule(label: &[u32]) -> bool {
-    label.contains(&MIDDLE_DOT) && !label.iter().any(|code| is_ordinary(*code))
+fn breaks_middle_dot_rule(label: &[u32], edition: Edition) -> bool {
+    label.contains(&MIDDLE_DOT) && !label.iter().any(|code| is_ordinary(*code, edition))
 }
 
 /// Hyphens in the third and fourth places, which RFC 5891 sets aside.
@@ -168,13 +182,19 @@ pub struct Family {
 const OF_NAMES: Family = Family { shortest: 3, pair_in_none: false };
 
 /// The first of 7, 8, 9, 17 and 10 that applies to a label, at its place.
-pub fn check_label(label: &[u32], family: Family, place: usize) -> Result<(), Refusal> {
-    check_taken(label, is_japanese_label(label), family, place)
+pub fn check_label(label: &[u32], family: Family, edition: Edition, place: usize) -> Result<(), Refusal> {
+    check_taken(label, is_japanese_label(label, edition), family, edition, place)
 }
 
 /// The same of a label that is taken for Japanese or for ASCII, whatever it
 /// holds. Document 004 has the middle dot rule for Japanese labels alone.
-pub fn check_taken(label: &[u32], japanese: bool, family: Family, place: usize) -> Result<(), Refusal> {
+pub fn check_taken(
+    label: &[u32],
+    japanese: bool,
+    family: Family,
+    edition: Edition,
+    place: usize,
+) -> Result<(), Refusal> {
     let longest = if japanese { 15 } else { 63 };
     let pair_is_refused = family.pair_in_none || !japanese;
     if label.first() == Some(&HYPHEN) || label.last() == Some(&HYPHEN) {
@@ -185,7 +205,7 @@ pub fn check_taken(label: &[u32], japanese: bool, family: Family, place: usize) 
         Err(Refusal::at(9, place))
     } else if pair_is_refused && has_hyphen_pair(label) {
         Err(Refusal::at(17, place))
-    } else if japanese && breaks_middle_dot_rule(label) {
+    } else if japanese && breaks_middle_dot_rule(label, edition) {
         Err(Refusal::at(10, place))
     } else {
         Ok(())
@@ -193,8 +213,8 @@ pub fn check_taken(label: &[u32], japanese: bool, family: Family, place: usize) 
 }
 
 /// The refusals of the leftmost label.
-pub fn check_leftmost(label: &[u32]) -> Result<(), Refusal> {
-    check_label(label, OF_NAMES, 0)
+pub fn check_leftmost(label: &[u32], edition: Edition) -> Result<(), Refusal> {
+    check_label(label, OF_NAMES, edition, 0)
 }
 
 /// Where labels stand in the text that they make when they are joined by periods
@@ -211,21 +231,22 @@ pub fn label_places(labels: &[Vec<u32>]) -> LabelPlaces {
     places
 }
 
-/// The whole check, given room: refusals 2 to 12, and 17 after 9.
-pub fn check(text: &[u32]) -> Result<Accepted, Refusal> {
-    let normal = read(text)?;
+/// The whole check by the rules of an edition, given room: refusals 2 to 12, and 17
+/// after 9. Without prefecture names there is no 12.
+pub fn check(text: &[u32], edition: Edition) -> Result<Accepted, Refusal> {
+    let normal = read(text, edition)?;
     let labels = labels(&normal);
-    if !(2..=3).contains(&labels.len()) {
+    if !(2..=most_labels(edition)).contains(&labels.len()) {
         return Err(Refusal::plain(5));
     }
     check_empty(&labels)?;
-    check_leftmost(&labels[0])?;
+    check_leftmost(&labels[0], edition)?;
     if !labels.last().is_some_and(|last| is_jp(last)) {
         return Err(Refusal::plain(11));
     }
     let class = match labels.len() {
         2 => Class::GeneralUse,
-        _ if is_prefecture_label(&labels[1]) => Class::Prefecture,
+        _ if is_prefecture_label(&labels[1], edition) => Class::Prefecture,
         _ => return Err(Refusal::plain(12)),
     };
     let places = label_places(&labels);
@@ -234,17 +255,18 @@ pub fn check(text: &[u32]) -> Result<Accepted, Refusal> {
 
 /// A label as it stands in the ASCII form: a Japanese one is encoded, an ASCII
 /// one left as it is.
-pub fn label_form(label: &[u32]) -> Result<String, Refusal> {
-    match is_japanese_label(label) {
+pub fn label_form(label: &[u32], edition: Edition) -> Result<String, Refusal> {
+    match is_japanese_label(label, edition) {
         true => coder::encode(label),
         false => Ok(label.iter().filter_map(|c| char::from_u32(*c)).collect()),
     }
 }
 
 /// The whole ASCII form, given room: the check's refusals, then 14.
-pub fn ascii_form(text: &[u32]) -> Result<Formed, Refusal> {
-    let accepted = check(text)?;
+pub fn ascii_form(text: &[u32], edition: Edition) -> Result<Formed, Refusal> {
+    let accepted = check(text, edition)?;
     let parts: Vec<String> =
-        accepted.labels.iter().map(|label| label_form(label)).collect::<Result<_, _>>()?;
-    Ok(Formed { form: parts.join("."), class: accepted.class, kinds: kinds(&accepted.labels[0]) })
+        accepted.labels.iter().map(|label| label_form(label, edition)).collect::<Result<_, _>>()?;
+    let kinds = kinds(&accepted.labels[0], edition);
+    Ok(Formed { form: parts.join("."), class: accepted.class, kinds })
 }

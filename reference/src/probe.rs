@@ -5,6 +5,7 @@ use crate::answer::{Answer, Class, Refusal};
 use crate::batch;
 use crate::calls;
 use crate::chars::{self, Kind};
+use crate::edition::Edition;
 use crate::grammar;
 use crate::hope;
 use crate::live::{Live, Shown};
@@ -14,6 +15,9 @@ use std::fmt::LowerHex;
 
 pub const LONGEST_LINE: usize = 4000;
 const LONGEST_BUFFER: usize = 300;
+
+/// The calls that take an edition.
+const WITH_EDITION: &str = "CcAaJjLlMVvKQR";
 
 /// The answer to one line, given without its LF.
 pub fn answer(line: &[u8]) -> String {
@@ -25,7 +29,7 @@ fn read_and_answer(line: &[u8]) -> Option<String> {
         return None;
     }
     let mut fields = std::str::from_utf8(line).ok()?.split(' ');
-    let call = fields.next()?;
+    let (call, edition) = read_call(fields.next()?)?;
     let lent = fields.next().and_then(decimal)?;
     let numbers: Vec<u32> = fields.map(hexadecimal).collect::<Option<_>>()?;
     match call {
@@ -34,29 +38,40 @@ fn read_and_answer(line: &[u8]) -> Option<String> {
             let octets: Vec<u8> = numbers.iter().map(narrow).collect::<Option<_>>()?;
             Some(on_octets(call, lent, &octets))
         }
-        _ => on_numbers(call, lent, &numbers),
+        _ => on_numbers(call, edition, lent, &numbers),
+    }
+}
+
+/// The call's letter, and the edition that may stand after it: any number of 32
+/// bits. Without one it is today's.
+fn read_call(word: &str) -> Option<(&str, u32)> {
+    let (call, edition) = word.split_at_checked(1)?;
+    match edition {
+        "" => Some((call, Edition::Today.number())),
+        _ if !WITH_EDITION.contains(call) => None,
+        _ => Some((call, edition.parse().ok().filter(|number: &u32| number.to_string() == edition)?)),
     }
 }
 
 /// The calls on code points. Whether a call is lent the table of kanji or
 /// names it itself is one here.
-fn on_numbers(call: &str, lent: usize, numbers: &[u32]) -> Option<String> {
+fn on_numbers(call: &str, edition: u32, lent: usize, numbers: &[u32]) -> Option<String> {
     Some(match call {
         "N" => in_points(lent, |buffer| plain(&calls::normal_form(numbers, buffer))),
-        "C" | "c" => in_points(lent, |buffer| with_labels(&calls::check(numbers, buffer))),
-        "A" | "a" => in_octets(lent, |buffer| with_kinds(&calls::ascii_form(numbers, buffer))),
+        "C" | "c" => in_points(lent, |buffer| with_labels(&calls::check(numbers, edition, buffer))),
+        "A" | "a" => in_octets(lent, |buffer| with_kinds(&calls::ascii_form(numbers, edition, buffer))),
         "E" => in_octets(lent, |buffer| plain(&calls::encode_label(numbers, buffer))),
         "H" | "h" => in_octets(lent, |buffer| plain(&calls::host_form(numbers, buffer))),
         "X" => in_octets(lent, |buffer| plain(&calls::label_form(numbers, buffer))),
-        "R" => in_points(lent, |buffer| asked_first(numbers, buffer)),
+        "R" => in_points(lent, |buffer| asked_first(numbers, edition, buffer)),
         "S" | "s" => flag(grammar::second_reader(numbers)).to_string(),
-        "L" | "l" | "J" | "j" => live(numbers),
-        "V" | "v" | "G" | "g" => live_host(numbers),
-        "M" => hopes(numbers),
+        "L" | "l" | "J" | "j" => live(edition, numbers),
+        "V" | "v" | "G" | "g" => live_host(edition, numbers),
+        "M" => hopes(edition, numbers),
         "P" => words((0..=lent).map(|entry| normal::place_of(numbers, entry))),
-        "K" => characters(numbers),
+        "K" => characters(edition, numbers),
         "T" => lists(lent, numbers),
-        "Q" => label(lent, numbers)?,
+        "Q" => label(edition, lent, numbers)?,
         _ => return None,
     })
 }
@@ -141,8 +156,8 @@ fn run<T: Copy + PartialEq + LowerHex>(before: Vec<T>, call: impl FnOnce(&mut [T
 }
 
 /// The state of the live check after these code points.
-fn stepped(numbers: &[u32]) -> Live {
-    let mut state = Live::fresh();
+fn stepped(edition: u32, numbers: &[u32]) -> Live {
+    let mut state = Live::fresh(edition);
     for code in numbers {
         state.step(*code);
     }
@@ -160,47 +175,51 @@ fn with_text(head: String, shown: &Shown) -> String {
 
 /// What the live check shows after the last code point. The judge says the
 /// same of the whole text.
-fn live(numbers: &[u32]) -> String {
-    let shown = stepped(numbers).look();
+fn live(edition: u32, numbers: &[u32]) -> String {
+    let shown = stepped(edition, numbers).look();
     let (class, labels) = (Class::letter(shown.class), shown.labels.word());
     with_text(format!("{} {} {class} {labels} {}", shown.number, shown.place, shown.length), &shown)
 }
 
 /// The same of a host, which has no class and no places of labels.
-fn live_host(numbers: &[u32]) -> String {
-    let shown = stepped(numbers).look_at_host();
+fn live_host(edition: u32, numbers: &[u32]) -> String {
+    let shown = stepped(edition, numbers).look_at_host();
     with_text(format!("{} {} {}", shown.number, shown.place, shown.length), &shown)
 }
 
 /// The normal form's answer; then whether it holds an unfit character, and the
 /// place of the first in the text. Of a text that is refused neither is told.
-fn asked_first(numbers: &[u32], buffer: &mut [u32]) -> String {
+fn asked_first(numbers: &[u32], edition: u32, buffer: &mut [u32]) -> String {
+    let edition = Edition::numbered_or_today(edition);
     let answer = calls::normal_form(numbers, buffer);
-    let unfit = name::unfit_place(numbers).filter(|_place| answer.number == 0);
+    let unfit = name::unfit_place(numbers, edition).filter(|_place| answer.number == 0);
     format!("{} {} {}", plain(&answer), flag(unfit.is_some()), unfit.unwrap_or(0))
 }
 
 /// A flag for every state of the live check, then those of the three ways to
 /// ask it of the whole text. Here they are one.
-fn hopes(numbers: &[u32]) -> String {
-    let mut state = Live::fresh();
+fn hopes(edition: u32, numbers: &[u32]) -> String {
+    let mut state = Live::fresh(edition);
     let mut run = flag(state.may_become()).to_string();
     for code in numbers {
         state.step(*code);
         run.push(flag(state.may_become()));
     }
-    let whole = flag(hope::may_become(numbers)).to_string();
+    let whole = Edition::numbered(edition).is_some_and(|edition| hope::may_become(numbers, edition));
+    let whole = flag(whole).to_string();
     format!("{run} {}", whole.repeat(3))
 }
 
 /// What each number is, what it becomes, and what it and the next become. To
 /// ask by the table that is lent or by the library's own is one here.
-fn characters(numbers: &[u32]) -> String {
+fn characters(edition: u32, numbers: &[u32]) -> String {
+    let edition = Edition::numbered_or_today(edition);
     let next = numbers.iter().skip(1).chain([&0]);
     words(numbers.iter().zip(next).map(|(code, next)| {
-        let flags = [chars::is_letter_or_digit(*code), chars::is_ascii_set(*code), chars::is_japanese(*code)];
-        let flags: String = flags.into_iter().map(flag).collect();
-        let kind = Kind::letter(chars::kind(*code));
+        let ascii = [chars::is_letter_or_digit(*code), chars::is_ascii_set(*code)];
+        let flags = ascii.into_iter().chain([chars::is_japanese(*code, edition)]);
+        let flags: String = flags.map(flag).collect();
+        let kind = Kind::letter(chars::kind(*code, edition));
         let class = normal::replacement_class(*code);
         let joined = normal::joined(*code, *next).unwrap_or(0);
         format!("{flags}{kind}{kind}{class} {:x} {joined:x}", normal::replaced(*code))
@@ -229,7 +248,8 @@ fn whole(halves: &[u32]) -> usize {
 /// end a name, and what each character of it is. The label comes after six
 /// numbers: the halves of where to begin, of the least length and of the label's
 /// place. LEN is 0 where the hyphen pair is refused in ASCII labels alone.
-fn label(lent: usize, numbers: &[u32]) -> Option<String> {
+fn label(edition: u32, lent: usize, numbers: &[u32]) -> Option<String> {
+    let edition = Edition::numbered_or_today(edition);
     let (halves, label) = numbers.split_at_checked(6)?;
     let (from, least, place) = (whole(&halves[..2]), whole(&halves[2..4]), whole(&halves[4..]));
     let family = Family { shortest: least, pair_in_none: lent != 0 };
@@ -237,26 +257,28 @@ fn label(lent: usize, numbers: &[u32]) -> Option<String> {
         Ok(()) => "0 0".to_string(),
         Err(refusal) => format!("{} {}", refusal.number, refusal.place),
     };
-    let rule = said(name::check_label(label, family, place));
-    let (end, unfit) = (name::label_end(label, from), name::first_unfit(label));
-    let japanese = flag(name::is_japanese_label(label));
-    let fit = label.iter().copied().all(name::may_be_in_label);
-    let kinds = chars::letters(&chars::kinds(if fit { label } else { &[] }));
-    let for_japanese = said(name::check_taken(label, true, family, place));
-    let for_ascii = said(name::check_taken(label, false, family, place));
-    let ending = endings(label);
+    let rule = said(name::check_label(label, family, edition, place));
+    let (end, unfit) = (name::label_end(label, from), name::first_unfit(label, edition));
+    let japanese = flag(name::is_japanese_label(label, edition));
+    let fit = label.iter().all(|code| name::may_be_in_label(*code, edition));
+    let kinds = chars::letters(&chars::kinds(if fit { label } else { &[] }, edition));
+    let for_japanese = said(name::check_taken(label, true, family, edition, place));
+    let for_ascii = said(name::check_taken(label, false, family, edition, place));
+    let ending = endings(label, edition);
     let mut out =
         format!("{rule} {end} {unfit} {japanese} {}{kinds} {for_japanese} {for_ascii} {ending}", flag(fit));
     for code in label {
-        out.extend([' ', flag(name::may_be_in_label(*code)), flag(name::is_ordinary(*code))]);
+        let flags = [name::may_be_in_label(*code, edition), name::is_ordinary(*code, edition)];
+        out.push(' ');
+        out.extend(flags.map(flag));
     }
     Some(out)
 }
 
 /// Whether a label is "jp", begins it, is a prefecture label, begins one.
-fn endings(label: &[u32]) -> String {
+fn endings(label: &[u32], edition: Edition) -> String {
     let last = [name::is_jp(label), name::begins_jp(label)];
-    let middle = [name::is_prefecture_label(label), name::begins_prefecture_label(label)];
+    let middle = [name::is_prefecture_label(label, edition), name::begins_prefecture_label(label, edition)];
     last.into_iter().chain(middle).map(flag).collect()
 }
 

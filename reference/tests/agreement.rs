@@ -1,8 +1,10 @@
 //! Two routes to the same answer, held against each other.
 
 use reference::answer::{Class, LabelPlaces, Refusal};
+use reference::cases::editions::sprinkled;
 use reference::cases::hosts::HostMaker;
 use reference::cases::random::{accepted_lines, any_label, NameMaker};
+use reference::edition::{Edition, EDITIONS};
 use reference::live::Live;
 use reference::name::Formed;
 use reference::random::Random;
@@ -10,7 +12,7 @@ use reference::{cases, chars, coder, grammar, hope, host, name, normal, utf8};
 
 /// The numbers of every case of the calls given.
 fn cases_of(calls: &str) -> Vec<Vec<u32>> {
-    let lines = cases::all_lines();
+    let lines = cases::well_formed_lines();
     let chosen = lines.iter().filter(|line| calls.contains(&line[..1]));
     chosen.map(|line| cases::numbers_of(line)).collect()
 }
@@ -26,22 +28,25 @@ fn pretends(label: &[u32]) -> bool {
 /// The second reader by the numbered rules: none of 7 to 10 applies. 17, which
 /// it does not know, hides none of them: only 10 comes after it, and no label
 /// has both, since the one is of ASCII labels and the other of Japanese ones.
-fn read_by_rules(label: &[u32]) -> bool {
-    let fits = |code: &u32| chars::is_ascii_set(*code) || chars::is_japanese(*code);
+fn read_by_rules(label: &[u32], edition: Edition) -> bool {
+    let fits = |code: &u32| chars::is_ascii_set(*code) || chars::is_japanese(*code, edition);
     let numbered = |no: Refusal| (7..=10).contains(&no.number);
-    !label.is_empty() && label.iter().all(fits) && !name::check_leftmost(label).is_err_and(numbered)
+    !label.is_empty() && label.iter().all(fits) && !name::check_leftmost(label, edition).is_err_and(numbered)
 }
 
-/// Three readers agree on a label. Of those that they take, the rules refuse
-/// the ones that pretend, with 17.
+/// Three readers agree on a label, in each edition. Of those that they take, the
+/// rules refuse the ones that pretend, with 17. The second reader is today's.
 fn assert_readers_agree(label: &[u32]) {
-    let answer = grammar::second_reader(label);
-    assert_eq!(answer, grammar::is_label(label), "{label:x?}");
-    assert_eq!(answer, read_by_rules(label), "{label:x?}");
-    let refused = name::check_leftmost(label) == Err(Refusal::plain(17));
-    if answer {
-        assert_eq!(refused, pretends(label), "{label:x?}");
+    for edition in EDITIONS {
+        let answer = grammar::reads(label, edition);
+        assert_eq!(answer, grammar::is_label(label, edition), "{edition:?} {label:x?}");
+        assert_eq!(answer, read_by_rules(label, edition), "{edition:?} {label:x?}");
+        let refused = name::check_leftmost(label, edition) == Err(Refusal::plain(17));
+        if answer {
+            assert_eq!(refused, pretends(label), "{edition:?} {label:x?}");
+        }
     }
+    assert_eq!(grammar::second_reader(label), grammar::reads(label, Edition::Today), "{label:x?}");
 }
 
 #[test]
@@ -54,10 +59,10 @@ fn three_readers_of_labels_agree_on_the_cases() {
     }
 }
 
-/// All labels of up to seven characters over one character of each kind.
+/// All labels of up to six characters over one character of each kind, and 3003.
 #[test]
 fn three_readers_of_labels_agree_on_all_short_labels() {
-    let kinds = [0x61, 0x2D, 0x30FB, 0x30FC, 0x3042, 0x20];
+    let kinds = [0x61, 0x2D, 0x30FB, 0x30FC, 0x3042, 0x3003, 0x20];
     let mut labels = vec![vec![]];
     for _ in 0..7 {
         labels.iter().for_each(|label: &Vec<u32>| assert_readers_agree(label));
@@ -66,23 +71,31 @@ fn three_readers_of_labels_agree_on_all_short_labels() {
 }
 
 /// The check accepts what the grammar derives, as the same class, but for the
-/// names whose leftmost label pretends to be encoded.
+/// names whose leftmost label pretends to be encoded. So it is in each edition.
 #[test]
 fn rules_accept_what_the_grammar_derives_and_does_not_pretend() {
     let mut random = Random::seeded(3);
     let maker = NameMaker::default();
     let mut texts = cases_of("NCAL");
-    texts.extend((0..20_000).map(|_| maker.typed_name(&mut random)));
-    let (mut accepted, mut pretending) = (0, 0);
-    for text in texts.iter().filter(|text| name::check_length(text).is_ok()) {
-        let normal = normal::normal_form(text);
-        let derived = grammar::class_of(&normal);
-        let kept = derived.filter(|_| !pretends(&normal::labels(&normal)[0]));
-        assert_eq!(name::check(text).ok().map(|name| name.class), kept, "{text:x?}");
-        accepted += usize::from(kept.is_some());
-        pretending += usize::from(derived != kept);
+    for _ in 0..20_000 {
+        let typed = maker.typed_name(&mut random);
+        texts.push(sprinkled(&typed, &mut random));
+        texts.push(typed);
     }
-    assert!(accepted > 10_000 && pretending > 400, "{accepted} accepted, {pretending} pretending");
+    texts.retain(|text| name::check_length(text).is_ok());
+    for edition in EDITIONS {
+        let (mut accepted, mut pretending) = (0, 0);
+        for text in &texts {
+            let normal = normal::normal_form(text);
+            let derived = grammar::class_of(&normal, edition);
+            let kept = derived.filter(|_| !pretends(&normal::labels(&normal)[0]));
+            let class = name::check(text, edition).ok().map(|name| name.class);
+            assert_eq!(class, kept, "{edition:?} {text:x?}");
+            accepted += usize::from(kept.is_some());
+            pretending += usize::from(derived != kept);
+        }
+        assert!(accepted > 10_000 && pretending > 300, "{accepted} accepted, {pretending} pretending");
+    }
 }
 
 /// After a whole label and a period a text may become a name where the second
@@ -94,11 +107,14 @@ fn labels_that_end_a_name_are_those_of_the_grammar() {
     let cases = cases_of("Q");
     for label in cases.iter().map(|numbers| &numbers[6..]).filter(is_plain) {
         let text = [&reference::points("abc."), label].concat();
-        let begins = name::begins_jp(label) || name::begins_prefecture_label(label);
-        assert_eq!(hope::may_become(&text), begins, "{label:x?}");
-        assert_eq!(grammar::class_of(&text).is_some(), name::is_jp(label), "{label:x?}");
         let whole = [&text, &reference::points(".jp")[..]].concat();
-        assert_eq!(grammar::class_of(&whole).is_some(), name::is_prefecture_label(label), "{label:x?}");
+        for edition in EDITIONS {
+            let begins = name::begins_jp(label) || name::begins_prefecture_label(label, edition);
+            assert_eq!(hope::may_become(&text, edition), begins, "{label:x?}");
+            assert_eq!(grammar::class_of(&text, edition).is_some(), name::is_jp(label), "{label:x?}");
+            let is_prefecture = name::is_prefecture_label(label, edition);
+            assert_eq!(grammar::class_of(&whole, edition).is_some(), is_prefecture, "{label:x?}");
+        }
     }
 }
 
@@ -142,14 +158,14 @@ fn live_check_shows_the_check_of_every_beginning() {
     let mut random = Random::seeded(6);
     let maker = NameMaker::default();
     for round in 0..300 {
-        let mut live = Live::fresh();
+        let mut live = Live::fresh(Edition::Today.number());
         let mut text = maker.typed_name(&mut random);
         while round % 50 == 0 && text.len() < 270 {
             text.extend(maker.typed_name(&mut random));
         }
         for end in 0..=text.len() {
             let (read, shown) = (&text[..end], live.look());
-            let (number, place, class, labels) = match name::check(read) {
+            let (number, place, class, labels) = match name::check(read, Edition::Today) {
                 Ok(name) => (0, 0, Some(name.class), name.places),
                 Err(no) => (no.number, no.place, None, LabelPlaces::default()),
             };
@@ -207,10 +223,15 @@ fn a_minus_sign_is_judged_as_a_hyphen() {
     for text in texts {
         let hyphened: Vec<u32> = text.iter().map(|code| if *code == 0x2212 { 0x2D } else { *code }).collect();
         assert_eq!(normal::placed_normal_form(&text), normal::placed_normal_form(&hyphened), "{text:x?}");
-        let judged =
-            |text: &[u32]| name::check(text).map(|name| name.class).map_err(|no| (no.number, no.place));
+        let judged = |text: &[u32]| {
+            name::check(text, Edition::Today).map(|name| name.class).map_err(|no| (no.number, no.place))
+        };
         assert_eq!(judged(&text), judged(&hyphened), "{text:x?}");
-        assert_eq!(hope::may_become(&text), hope::may_become(&hyphened), "{text:x?}");
+        assert_eq!(
+            hope::may_become(&text, Edition::Today),
+            hope::may_become(&hyphened, Edition::Today),
+            "{text:x?}"
+        );
         let at_4 = judged(&text).err().filter(|no| no.0 == 4).map(|no| text[no.1]);
         assert_ne!(at_4, Some(0x2212), "{text:x?}");
     }
@@ -233,9 +254,11 @@ fn hosts(count: usize, seed: u64) -> Vec<Vec<u32>> {
 #[test]
 fn rules_of_hosts_accept_the_labels_of_their_grammar() {
     let kinds = [0x61, 0x2D, 0x30FB, 0x30FC, 0x3042, 0x20];
-    let fits = |label: &Vec<u32>| !label.is_empty() && label.iter().all(|code| name::may_be_in_label(*code));
+    let fits = |label: &Vec<u32>| {
+        !label.is_empty() && label.iter().all(|code| name::may_be_in_label(*code, Edition::Today))
+    };
     let agree = |label: &Vec<u32>| {
-        let good = fits(label) && name::check_label(label, host::OF_HOSTS, 0).is_ok();
+        let good = fits(label) && name::check_label(label, host::OF_HOSTS, Edition::Today, 0).is_ok();
         assert_eq!(good, grammar::is_host_label(label), "{label:x?}");
     };
     let mut labels = vec![vec![]];
@@ -277,8 +300,8 @@ fn rules_accept_the_hosts_that_the_grammar_derives() {
 #[test]
 fn the_form_of_one_label_is_that_of_names_and_of_the_coder() {
     for label in hosts(2_000, 11).iter().flat_map(|text| normal::labels(&normal::normal_form(text))) {
-        if label.iter().all(|code| name::may_be_in_label(*code)) && label.len() <= 63 {
-            assert_eq!(coder::ascii_label(&label), name::label_form(&label), "{label:x?}");
+        if label.iter().all(|code| name::may_be_in_label(*code, Edition::Today)) && label.len() <= 63 {
+            assert_eq!(coder::ascii_label(&label), name::label_form(&label, Edition::Today), "{label:x?}");
         }
     }
     for label in cases_of("EX") {
@@ -296,7 +319,7 @@ fn prefecture_names_are_hosts() {
     let (mut same, mut paired) = (0, 0);
     for line in accepted_lines(6_000, 23) {
         let text = cases::numbers_of(&line);
-        let Formed { form, class, .. } = name::ascii_form(&text).unwrap();
+        let Formed { form, class, .. } = name::ascii_form(&text, Edition::Today).unwrap();
         let leftmost = normal::labels(&normal::normal_form(&text)).swap_remove(0);
         let expected = match class {
             Class::GeneralUse => Err(Refusal::plain(5)),
@@ -317,7 +340,7 @@ fn live_check_shows_the_rules_of_hosts_on_every_beginning() {
     let mut random = Random::seeded(12);
     let maker = HostMaker::default();
     for round in 0..300 {
-        let mut live = Live::fresh();
+        let mut live = Live::fresh(Edition::Today.number());
         let mut text = maker.typed_host(&mut random);
         while round % 30 == 0 && text.len() < 270 {
             text.push(chars::PERIOD);
@@ -341,11 +364,11 @@ fn names_and_hosts_ask_the_same_first() {
     for text in hosts(2_000, 13) {
         let early = |no: &Refusal| no.number <= 4;
         let of_host = host::ascii_form(&text).err().filter(early);
-        assert_eq!(of_host, name::check(&text).err().filter(early), "{text:x?}");
+        assert_eq!(of_host, name::check(&text, Edition::Today).err().filter(early), "{text:x?}");
         let first = name::check_length(&text).err();
-        let unfit = name::unfit_place(&text).map(|place| Refusal::at(4, place));
+        let unfit = name::unfit_place(&text, Edition::Today).map(|place| Refusal::at(4, place));
         assert_eq!(of_host, first.or(unfit), "{text:x?}");
         let normal = normal::normal_form(&text);
-        assert_eq!(unfit.is_some(), name::first_unfit(&normal) < normal.len(), "{text:x?}");
+        assert_eq!(unfit.is_some(), name::first_unfit(&normal, Edition::Today) < normal.len(), "{text:x?}");
     }
 }

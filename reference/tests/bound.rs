@@ -11,7 +11,8 @@
 use std::collections::BTreeMap;
 
 const LONGEST: u64 = 15;
-const LEAST: u64 = 0x3005 - 0x80;
+/// The least Japanese character, which edition 1 alone has (K12).
+const LEAST: u64 = 0x3003 - 0x80;
 const GREATEST: u64 = 0x9FA0 - 0x80;
 
 /// For each (bias, digits so far): the least value reached, counted from 80.

@@ -4,6 +4,7 @@ use reference::cases::coder::mutants;
 use reference::cases::hosts::CALLS;
 use reference::cases::numbers_of;
 use reference::coder::{is_encodable, RFC};
+use reference::edition::Edition;
 use reference::{cases, count, grammar, name, normal, probe};
 use std::collections::BTreeSet;
 
@@ -13,17 +14,19 @@ fn case_file_is_well_formed_and_of_bearable_size() {
     assert_eq!(lines, cases::all_lines());
     let answers: Vec<String> = lines.iter().map(|line| probe::answer(line.as_bytes())).collect();
     assert!(lines.iter().all(|line| line.len() <= probe::LONGEST_LINE));
-    assert!(answers.iter().all(|answer| answer != "?"));
+    let malformed: Vec<&String> =
+        lines.iter().zip(&answers).filter(|(_, answer)| *answer == "?").map(|(line, _)| line).collect();
+    assert_eq!(malformed, cases::editions::malformed_lines().iter().collect::<Vec<_>>());
     let size = |lines: &[String]| lines.iter().map(|line| line.len() + 1).sum::<usize>();
-    assert!(size(&lines) < 2_500_000);
-    assert!(size(&answers) < 1_650_000);
+    assert!(size(&lines) < 2_900_000);
+    assert!(size(&answers) < 1_900_000);
 }
 
 #[test]
 fn each_number_comes_up_a_hundred_times() {
-    let lines = cases::all_lines();
+    let lines = cases::well_formed_lines();
     for (number, times) in counted(&lines).into_iter().enumerate() {
-        let asked = if number == 18 { times == 0 } else { times >= 100 };
+        let asked = if [18, 20, 21, 22, 23, 24].contains(&number) { times == 0 } else { times >= 100 };
         assert!(asked, "{number} comes up {times} times");
     }
 }
@@ -38,7 +41,7 @@ fn counted(lines: &[String]) -> [usize; count::NUMBERS] {
 /// table itself, and with each form of the judge. 14 comes up with none.
 #[test]
 fn each_number_comes_up_with_each_call_of_its_own() {
-    let lines = cases::all_lines();
+    let lines = cases::well_formed_lines();
     for call in "calJj".chars() {
         let of_call: Vec<String> = lines.iter().filter(|line| line.starts_with(call)).cloned().collect();
         let counts = counted(&of_call);
@@ -49,6 +52,7 @@ fn each_number_comes_up_with_each_call_of_its_own() {
                 0 | 1 | 4 => 20,
                 2 | 3 => 1,
                 5..=12 | 17 => 8,
+                25 => 50,
                 _ => 0,
             };
             assert!(times >= least && (times > 0) == (least > 0), "{call}: {number} comes up {times} times");
@@ -60,7 +64,7 @@ fn each_number_comes_up_with_each_call_of_its_own() {
 /// with none, nor does 1 where no buffer is lent.
 #[test]
 fn each_number_of_hosts_comes_up_with_each_call_on_a_host() {
-    let lines = cases::all_lines();
+    let lines = cases::well_formed_lines();
     for (call, _lent) in CALLS {
         let of_call: Vec<String> = lines.iter().filter(|line| line.starts_with(call)).cloned().collect();
         for (number, times) in counted(&of_call).into_iter().enumerate() {
@@ -81,7 +85,7 @@ fn each_number_of_hosts_comes_up_with_each_call_on_a_host() {
 /// label, with each call on a host.
 #[test]
 fn refusals_of_hosts_come_up_in_first_middle_and_last_labels() {
-    let lines = cases::all_lines();
+    let lines = cases::well_formed_lines();
     for (call, _lent) in CALLS {
         let mut seen = BTreeSet::new();
         for line in lines.iter().filter(|line| line.starts_with(call)) {
@@ -108,12 +112,13 @@ fn refusals_of_hosts_come_up_in_first_middle_and_last_labels() {
 /// to over a thousand octets.
 #[test]
 fn the_forms_of_hosts_come_up_to_the_longest_and_past_it() {
-    let lines = cases::all_lines();
+    let lines = cases::well_formed_lines();
     let mut seen = BTreeSet::new();
     for line in lines.iter().filter(|line| line.starts_with('H')) {
         let labels = normal::labels(&normal::normal_form(&numbers_of(line)));
         if labels.iter().all(|label| grammar::is_host_label(label)) {
-            let japanese = labels.iter().filter(|label| name::is_japanese_label(label)).count();
+            let japanese =
+                labels.iter().filter(|label| name::is_japanese_label(label, Edition::Today)).count();
             let mixed = japanese > 0 && japanese < labels.len();
             seen.insert((grammar::host_octets(&labels), japanese > 0, mixed));
         }
@@ -129,7 +134,7 @@ fn the_forms_of_hosts_come_up_to_the_longest_and_past_it() {
 /// Each way to answer for one label and for what is asked of every text first.
 #[test]
 fn labels_and_texts_of_every_kind_come_up() {
-    let lines = cases::all_lines();
+    let lines = cases::well_formed_lines();
     let often = |call: char, wanted: &[(usize, &str)], times: usize| {
         let of_call = lines.iter().filter(|line| line.starts_with(call));
         let answers: Vec<String> = of_call.map(|line| probe::answer(line.as_bytes())).collect();
@@ -151,7 +156,7 @@ fn labels_and_texts_of_every_kind_come_up() {
 
 #[test]
 fn both_classes_and_every_call_come_up_often() {
-    let lines = cases::all_lines();
+    let lines = cases::well_formed_lines();
     for (calls, times) in [("NCAESDLBM", 500), ("casljJPTUFWQHhGgVvXR", 200), ("K", 50)] {
         for call in calls.chars() {
             assert!(lines.iter().filter(|line| line.starts_with(call)).count() > times, "{call}");
@@ -165,8 +170,8 @@ fn both_classes_and_every_call_come_up_often() {
 
 #[test]
 fn many_texts_may_become_a_name_and_many_may_not() {
-    let mut lines = cases::all_lines();
-    lines.retain(|line| line.starts_with('M'));
+    let mut lines = cases::well_formed_lines();
+    lines.retain(|line| line.starts_with("M "));
     let answers: Vec<String> = lines.iter().map(|line| probe::answer(line.as_bytes())).collect();
     for end in [" 111", " 000"] {
         assert!(answers.iter().filter(|answer| answer.ends_with(end)).count() > 200, "{end}");
@@ -183,7 +188,7 @@ fn many_texts_may_become_a_name_and_many_may_not() {
 
 #[test]
 fn each_bent_parameter_is_noticed_by_coder_and_decoder() {
-    let lines = cases::all_lines();
+    let lines = cases::well_formed_lines();
     let labels: Vec<Vec<u32>> = lines
         .iter()
         .filter(|line| line.starts_with("E 63 "))
@@ -223,17 +228,22 @@ fn counting_knows_numbers_from_octets_and_yes_or_no() {
         ("V 0", "2 0 0"),
         ("X 63 3042 41", "13 0 0"),
         ("R 256 20", "0 0 1 1 0 20"),
+        ("C0 256", "25 0 - - 0"),
+        ("L9 0 61", "25 0 - - 1 61"),
+        ("C01 256", "?"),
+        ("W1 256", "?"),
+        ("B2 0", "?"),
     ];
     let counts = count::count(answered.into_iter());
     assert_eq!((counts[0], counts[1], counts[4], counts[8], counts[16]), (3, 0, 2, 1, 2));
     assert_eq!((counts[2], counts[5], counts[7], counts[13]), (1, 2, 1, 1));
-    assert_eq!(counts.iter().sum::<usize>(), 13);
+    assert_eq!((counts[25], counts.iter().sum::<usize>()), (2, 15));
 }
 
 /// What a case of the smaller calls is to show.
 #[test]
 fn the_smaller_calls_say_yes_and_no() {
-    let lines = cases::all_lines();
+    let lines = cases::well_formed_lines();
     let often = |call: char, begun: &str, times: usize| {
         let of_call = lines.iter().filter(|line| line.starts_with(call));
         let answers = of_call.map(|line| probe::answer(line.as_bytes()));
@@ -262,7 +272,7 @@ fn the_smaller_calls_say_yes_and_no() {
 /// so does either answer of every flag. 0 has the place 0 always.
 #[test]
 fn the_labels_of_the_cases_are_of_every_kind() {
-    let lines = cases::all_lines();
+    let lines = cases::well_formed_lines();
     let labels = lines.iter().filter(|line| line.starts_with('Q'));
     let answers: Vec<String> = labels.map(|line| probe::answer(line.as_bytes())).collect();
     let words: Vec<Vec<&str>> = answers.iter().map(|answer| answer.split(' ').collect()).collect();
@@ -303,9 +313,9 @@ fn the_labels_of_the_cases_are_of_every_kind() {
 /// such a label never gets 17; with any other number it gets it before 10.
 #[test]
 fn the_pair_is_asked_of_every_label_or_of_ascii_labels_alone() {
-    let lines = cases::all_lines();
+    let lines = cases::well_formed_lines();
     let mut changed = BTreeSet::new();
-    for line in lines.iter().filter(|line| line.starts_with('Q')) {
+    for line in lines.iter().filter(|line| line.starts_with("Q ")) {
         let (lent, numbers) = line[2..].split_once(' ').unwrap();
         let [alone, every] = ["0", "1"].map(|lent| probe::answer(format!("Q {lent} {numbers}").as_bytes()));
         assert_eq!(probe::answer(line.as_bytes()), if lent == "0" { &alone[..] } else { &every[..] });
@@ -325,7 +335,7 @@ fn the_pair_is_asked_of_every_label_or_of_ascii_labels_alone() {
 /// Every kind of character, each answer of every flag, and every composition.
 #[test]
 fn the_characters_of_the_cases_are_of_every_kind() {
-    let lines = cases::all_lines();
+    let lines = cases::well_formed_lines();
     let answers: Vec<String> = lines
         .iter()
         .filter(|line| line.starts_with('K'))

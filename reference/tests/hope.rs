@@ -3,7 +3,8 @@
 
 use reference::cases::random::NameMaker;
 use reference::chars::is_japanese;
-use reference::hope::may_become;
+use reference::edition::{Edition, EDITIONS};
+use reference::hope;
 use reference::name::{check, japanese_prefectures, latin_prefectures};
 use reference::normal::{compositions, normal_form};
 use reference::points;
@@ -12,13 +13,18 @@ use std::collections::BTreeSet;
 
 /// One code point of every kind that may be typed.
 const KINDS: &str = "aZ7-.\u{3042}\u{304B}\u{30CF}\u{4E9C}\u{3005}\u{3006}\u{30FC}\u{30FB}\u{309B}\u{309C}\
-    \u{FF41}\u{FF0D}\u{2212}\u{FF0E}\u{3002}\u{FF61}\u{FF76}\u{FF65}\u{FF70}\u{FF9E}\u{FF9F}\u{3099} ";
+    \u{3003}\u{FF41}\u{FF0D}\u{2212}\u{FF0E}\u{3002}\u{FF61}\u{FF76}\u{FF65}\u{FF70}\u{FF9E}\u{FF9F}\u{3099} ";
 
 /// The kinds that labels are made of.
 const LABEL_KINDS: &str = "a-\u{304B}\u{30FC}\u{30FB}\u{309B}\u{FF8A}\u{FF9F}";
 
+/// Whether a text may become a name by today's rules.
+fn may_become(text: &[u32]) -> bool {
+    hope::may_become(text, Edition::Today)
+}
+
 fn accepted(text: &[u32]) -> bool {
-    check(text).is_ok()
+    check(text, Edition::Today).is_ok()
 }
 
 fn with(text: &[u32], more: &[u32]) -> Vec<u32> {
@@ -69,28 +75,33 @@ fn random_texts(count: usize, seed: u64) -> Vec<Vec<u32>> {
 
 #[test]
 fn every_beginning_of_a_name_may_become_one() {
-    let names = random_texts(5_000, 11).into_iter().filter(|text| accepted(text));
-    let mut many = 0;
-    for name in names {
-        (0..=name.len()).for_each(|end| assert!(may_become(&name[..end]), "{name:x?} {end}"));
-        many += 1;
+    let texts = random_texts(5_000, 11);
+    for edition in EDITIONS {
+        let mut many = 0;
+        for name in texts.iter().filter(|text| check(text, edition).is_ok()) {
+            let may = |end: usize| hope::may_become(&name[..end], edition);
+            (0..=name.len()).for_each(|end| assert!(may(end), "{edition:?} {name:x?} {end}"));
+            many += 1;
+        }
+        assert!(many > 2_000, "{edition:?}: {many}");
     }
-    assert!(many > 3_000);
 }
 
 #[test]
 fn what_may_not_never_will() {
     let kinds = points(KINDS);
     let mut lost = 0;
-    for text in random_texts(2_000, 12) {
-        let hopes: Vec<bool> = (0..=text.len()).map(|end| may_become(&text[..end])).collect();
+    let texts = random_texts(2_000, 12);
+    for (text, edition) in texts.iter().flat_map(|text| EDITIONS.map(|edition| (text, edition))) {
+        let hopes: Vec<bool> = (0..=text.len()).map(|end| hope::may_become(&text[..end], edition)).collect();
         assert!(hopes.windows(2).all(|pair| pair[0] || !pair[1]), "{text:x?}");
         if !hopes[text.len()] {
-            assert!(!kinds.iter().any(|code| may_become(&with(&text, &[*code]))), "{text:x?}");
+            let goes_on = |code: &u32| hope::may_become(&with(text, &[*code]), edition);
+            assert!(!kinds.iter().any(goes_on), "{text:x?}");
             lost += 1;
         }
     }
-    assert!(lost > 2_000);
+    assert!(lost > 8_000);
 }
 
 /// Held with the one before of every text, this would settle the answer: no name
@@ -202,10 +213,10 @@ fn second_and_third_labels_may_where_the_end_of_an_ending_makes_a_name() {
 /// base.
 #[test]
 fn a_base_and_what_a_mark_makes_of_it_are_of_one_kind() {
-    let plain = |code: &u32| is_japanese(*code) && ![0x3006, 0x30FC, 0x30FB].contains(code);
+    let plain = |code: &u32| is_japanese(*code, Edition::Today) && ![0x3006, 0x30FC, 0x30FB].contains(code);
     let in_endings: BTreeSet<u32> = endings().concat().into_iter().collect();
     for ((base, mark), whole) in compositions() {
-        assert!(plain(base) && plain(whole) && !is_japanese(*mark));
+        assert!(plain(base) && plain(whole) && !is_japanese(*mark, Edition::Today));
         assert!(!in_endings.contains(base) && !in_endings.contains(whole));
     }
 }

@@ -4,6 +4,7 @@
 
 use reference::cases::random::{accepted_lines, NameMaker};
 use reference::chars::{self, Kind};
+use reference::edition::{Edition, EDITIONS};
 use reference::random::Random;
 use reference::{batch, cases, coder, name, normal, points, probe};
 use std::collections::{BTreeSet, HashMap};
@@ -19,15 +20,17 @@ const ROW_5: &str = "ァアィイゥウェエォオカガキギクグケゲコ�
     ナニヌネノハバパヒビピフブプヘベペホボポマミムメモャヤュユョヨラリルレロヮワヰヱヲンヴヵヶ";
 
 /// The cells of row 1 that names may have: the middle dot, the marks that repeat,
-/// and the rest but for 3003 in cell 23.
-fn is_sign(cell: usize) -> bool {
-    [6, 19, 20, 21, 22, 24, 25, 26, 27, 28].contains(&cell)
+/// and the rest, with 3003 in cell 23 in edition 1 alone (K12).
+fn is_sign(cell: usize, edition: Edition) -> bool {
+    let first = edition == Edition::Of2003;
+    cell == 6 || (19..=28).contains(&cell) && (cell != 23 || first)
 }
 
 /// Each Japanese character with the letter of its kind, by row and cell.
-fn by_rows() -> Vec<(u32, char)> {
+fn by_rows(edition: Edition) -> Vec<(u32, char)> {
     let of_row = |row: &str, letter: char| row.chars().map(move |c| (u32::from(c), letter)).collect();
-    let signs = ROW_1.chars().zip(1..).filter(|(_, cell)| is_sign(*cell)).map(|(c, _)| (u32::from(c), 'S'));
+    let cells = ROW_1.chars().zip(1..).filter(|(_, cell)| is_sign(*cell, edition));
+    let signs = cells.map(|(c, _)| (u32::from(c), 'S'));
     let mut found: Vec<(u32, char)> = signs.collect();
     found.extend::<Vec<_>>(of_row(ROW_4, 'H'));
     found.extend::<Vec<_>>(of_row(ROW_5, 'K'));
@@ -68,30 +71,35 @@ fn code_points() -> impl Iterator<Item = u32> {
 
 #[test]
 fn the_kind_of_a_character_is_that_of_its_row() {
-    let letter_of: HashMap<u32, char> = by_rows().into_iter().collect();
-    for code in code_points() {
-        let letter = *letter_of.get(&code).unwrap_or(&'-');
-        assert_eq!(Kind::letter(chars::kind(code)), letter, "{code:x}");
-        assert_eq!(chars::letters(&chars::kinds(&[code])), letter.to_string(), "{code:x}");
+    for edition in EDITIONS {
+        let letter_of: HashMap<u32, char> = by_rows(edition).into_iter().collect();
+        for code in code_points() {
+            let letter = *letter_of.get(&code).unwrap_or(&'-');
+            assert_eq!(Kind::letter(chars::kind(code, edition)), letter, "{code:x}");
+            assert_eq!(chars::letters(&chars::kinds(&[code], edition)), letter.to_string(), "{code:x}");
+        }
     }
 }
 
-/// The counts of document 01. They add up to as many characters as there are, so
-/// none has two kinds.
+/// The counts of document 01, with one sign more in edition 1. They add up to as many
+/// characters as there are, so none has two kinds.
 #[test]
 fn each_kind_has_its_count_and_no_character_has_two() {
-    let counted = |letter: char| by_rows().iter().filter(|one| one.1 == letter).count();
-    assert_eq!(LETTERS.chars().map(counted).collect::<Vec<_>>(), [83, 86, 6355, 10]);
-    assert_eq!(by_rows().iter().map(|one| one.0).collect::<BTreeSet<_>>().len(), 6534);
-    let own = |kind: Kind| (0..0x30000).filter(|code| chars::kind(*code) == Some(kind)).count();
-    assert_eq!([Kind::Hiragana, Kind::Katakana, Kind::Kanji, Kind::Sign].map(own), [83, 86, 6355, 10]);
+    for (edition, signs) in EDITIONS.into_iter().zip([11, 10, 10, 10]) {
+        let listed = by_rows(edition);
+        let counted = |letter: char| listed.iter().filter(|one| one.1 == letter).count();
+        assert_eq!(LETTERS.chars().map(counted).collect::<Vec<_>>(), [83, 86, 6355, signs]);
+        assert_eq!(listed.iter().map(|one| one.0).collect::<BTreeSet<_>>().len(), 6524 + signs);
+        let own = |kind: Kind| (0..0x30000).filter(|code| chars::kind(*code, edition) == Some(kind)).count();
+        assert_eq!([Kind::Hiragana, Kind::Katakana, Kind::Kanji, Kind::Sign].map(own), [83, 86, 6355, signs]);
+    }
 }
 
 /// What is a sign is of no other kind, wherever it stands among the code points.
 #[test]
 fn signs_are_no_kana_and_no_kanji() {
     for code in [0x30FB, 0x30FD, 0x30FE, 0x309D, 0x309E, 0x4EDD, 0x3005, 0x3006, 0x3007, 0x30FC] {
-        assert_eq!(chars::kind(code), Some(Kind::Sign), "{code:x}");
+        assert_eq!(chars::kind(code, Edition::Today), Some(Kind::Sign), "{code:x}");
     }
     for (code, kind) in [
         (0x3041, Kind::Hiragana),
@@ -102,25 +110,29 @@ fn signs_are_no_kana_and_no_kanji() {
         (0x4E00, Kind::Kanji),
         (0x9FA0, Kind::Kanji),
     ] {
-        assert_eq!(chars::kind(code), Some(kind), "{code:x}");
+        assert_eq!(chars::kind(code, Edition::Today), Some(kind), "{code:x}");
     }
     for code in
         [0x3003, 0x3040, 0x3094, 0x309B, 0x309C, 0x30A0, 0x30F7, 0x30FF, 0x4DFF, 0x9FA1, 0xFF71, 0xFF70]
     {
-        assert_eq!(chars::kind(code), None, "{code:x}");
+        assert_eq!(chars::kind(code, Edition::Today), None, "{code:x}");
     }
 }
 
-/// Yes or no is what it was: membership in the set that document 01 lists.
+/// Yes or no is what it was: membership in the set that document 01 lists, and of 3003
+/// in edition 1.
 #[test]
 fn japanese_is_any_kind_but_none() {
     let mut listed: BTreeSet<u32> = (0x3041..=0x3093).chain(0x30A1..=0x30F6).collect();
     listed.extend(chars::kanji());
     listed.extend(chars::SIGNS);
     assert_eq!(listed.len(), 6534);
-    for code in code_points() {
-        assert_eq!(chars::is_japanese(code), listed.contains(&code), "{code:x}");
-        assert_eq!(chars::japanese().contains_key(&code), listed.contains(&code), "{code:x}");
+    for edition in EDITIONS {
+        let is_listed = |code: u32| listed.contains(&code) || edition == Edition::Of2003 && code == 0x3003;
+        for code in code_points() {
+            assert_eq!(chars::is_japanese(code, edition), is_listed(code), "{code:x}");
+            assert_eq!(chars::japanese(edition).contains_key(&code), is_listed(code), "{code:x}");
+        }
     }
 }
 
@@ -134,12 +146,12 @@ fn the_normal_form_gives_half_width_kana_their_kind() {
             0xFF9E | 0xFF9F => None,
             _ => Some(Kind::Katakana),
         };
-        assert_eq!(chars::kind(half), None, "{half:x}");
-        assert_eq!(chars::kind(normal::replaced(half)), kind, "{half:x}");
+        assert_eq!(chars::kind(half, Edition::Today), None, "{half:x}");
+        assert_eq!(chars::kind(normal::replaced(half), Edition::Today), kind, "{half:x}");
     }
     for ((base, mark), whole) in normal::compositions() {
-        assert!(chars::kind(*base).is_some() && chars::kind(*mark).is_none());
-        assert_eq!(chars::kind(*base), chars::kind(*whole), "{base:x}");
+        assert!(chars::kind(*base, Edition::Today).is_some() && chars::kind(*mark, Edition::Today).is_none());
+        assert_eq!(chars::kind(*base, Edition::Today), chars::kind(*whole, Edition::Today), "{base:x}");
     }
 }
 
@@ -190,7 +202,7 @@ fn leftmost(form: &str) -> Vec<u32> {
 /// label by itself.
 #[test]
 fn the_sixth_field_is_of_the_leftmost_label() {
-    let letter_of: HashMap<u32, char> = by_rows().into_iter().collect();
+    let letter_of: HashMap<u32, char> = by_rows(Edition::Today).into_iter().collect();
     let mut seen = BTreeSet::new();
     for line in accepted_lines(20_000, 6) {
         let text = cases::numbers_of(&line);
@@ -218,14 +230,16 @@ fn refused_names_have_no_kinds() {
     for _ in 0..20_000 {
         let typed = maker.typed_name(&mut random);
         let text = maker.edit(&typed, &mut random);
-        let Err(refusal) = name::check(&text) else { continue };
+        let Err(refusal) = name::check(&text, Edition::Today) else { continue };
         let answer = probe::answer(cases::probe_line('A', 192, &text).as_bytes());
         assert_eq!(answer, format!("{} {} - - 0", refusal.number, refusal.place));
         if text.iter().all(|code| char::from_u32(*code).is_some_and(|c| !"\t".contains(c))) {
             let name: String = text.iter().filter_map(|code| char::from_u32(*code)).collect();
             assert_eq!(answered(&name)[3..], ["-", "-", "-"], "{name}");
         }
-        holding += usize::from(!chars::kinds(&normal::labels(&normal::normal_form(&text))[0]).is_empty());
+        holding += usize::from(
+            !chars::kinds(&normal::labels(&normal::normal_form(&text))[0], Edition::Today).is_empty(),
+        );
     }
     assert!(holding > 5_000, "{holding} names hold kinds");
 }
@@ -265,7 +279,7 @@ fn told(line: &str) -> Vec<(String, String)> {
 /// either class, and is told in one way only.
 #[test]
 fn every_set_comes_up_with_each_call_that_tells_kinds() {
-    let lines = cases::all_lines();
+    let lines = cases::well_formed_lines();
     for call in ["A", "a", "W", "B", "Q"] {
         let of_call = lines.iter().filter(|line| line.starts_with(call));
         let found: BTreeSet<(String, String)> = of_call.flat_map(|line| told(line)).collect();
@@ -292,20 +306,20 @@ fn every_set_comes_up_in_the_input_of_desk() {
 /// that tells them. Those of 8 and 17 are ASCII labels; there the middle label does.
 #[test]
 fn refused_names_of_the_cases_hold_kinds() {
-    let lines = cases::all_lines();
+    let lines = cases::well_formed_lines();
     for call in ["A", "a", "W", "B"] {
         let mut seen = BTreeSet::new();
         for line in lines.iter().filter(|line| line.starts_with(call)) {
             for (text, number) in answers_to(line) {
                 let labels = normal::labels(&normal::normal_form(&text));
                 let asked = if [8, 17].contains(&number) { labels.get(1) } else { labels.first() };
-                if asked.is_some_and(|label| !chars::kinds(label).is_empty()) {
+                if asked.is_some_and(|label| !chars::kinds(label, Edition::Today).is_empty()) {
                     seen.insert(number);
                 }
             }
         }
-        // 1 and 16 come up too, of a short buffer and of bad lines; 0 is no refusal.
-        seen.retain(|number| ![0, 1, 16].contains(number));
+        // 1, 16 and 25 come up too, of a short buffer, of bad lines and of no edition; 0 is no refusal.
+        seen.retain(|number| ![0, 1, 16, 25].contains(number));
         assert_eq!(seen, [3, 4, 5, 6, 7, 8, 9, 10, 11, 12, 17].into(), "{call}");
     }
 }

@@ -1,10 +1,13 @@
 //! One name, one ASCII form (document 02, K4): of two accepted texts the ASCII
-//! forms are equal where the normal forms are, and nowhere else. Hosts likewise.
+//! forms are equal where the normal forms are, and nowhere else. So it is within each
+//! edition (K12), and hosts likewise.
 
 use reference::answer::{Class, Refusal};
 use reference::cases::duplicates::stand_ins;
+use reference::cases::editions::sprinkled;
 use reference::cases::hosts::HostMaker;
 use reference::cases::random::NameMaker;
+use reference::edition::{Edition, EDITIONS};
 use reference::random::Random;
 use reference::{cases, grammar, host, name, normal, points};
 use std::collections::HashMap;
@@ -34,7 +37,7 @@ impl Register {
 fn texts(calls: &str, made: impl Fn(&mut Random) -> Vec<u32>) -> Vec<Vec<u32>> {
     let mut random = Random::seeded(44);
     let maker = NameMaker::default();
-    let lines = cases::all_lines();
+    let lines = cases::well_formed_lines();
     let chosen = lines.iter().filter(|line| calls.contains(&line[..1]));
     let mut texts: Vec<Vec<u32>> = chosen.map(|line| cases::numbers_of(line)).collect();
     for _ in 0..20_000 {
@@ -45,17 +48,29 @@ fn texts(calls: &str, made: impl Fn(&mut Random) -> Vec<u32>) -> Vec<Vec<u32>> {
     texts
 }
 
+/// A random name as typed, one in four with 3003.
+fn typed_or_sprinkled(maker: &NameMaker, random: &mut Random) -> Vec<u32> {
+    let typed = maker.typed_name(random);
+    match random.once_in(4) {
+        true => sprinkled(&typed, random),
+        false => typed,
+    }
+}
+
 #[test]
 fn names_have_one_form_each() {
     let maker = NameMaker::default();
-    let mut register = Register::default();
-    for text in texts("NCAL", |random| maker.typed_name(random)) {
-        if let Ok(formed) = name::ascii_form(&text) {
-            register.enter(&formed.form, &text);
+    let texts = texts("NCAL", |random| typed_or_sprinkled(&maker, random));
+    for (edition, least) in EDITIONS.into_iter().zip([11_000, 9_000, 11_000, 12_000]) {
+        let mut register = Register::default();
+        for text in &texts {
+            if let Ok(formed) = name::ascii_form(text, edition) {
+                register.enter(&formed.form, text);
+            }
         }
+        let met = (register.form_of.len(), register.other_texts);
+        assert!(met.0 > least && met.1 > least / 2, "{edition:?}: {met:?}");
     }
-    let met = (register.form_of.len(), register.other_texts);
-    assert!(met.0 > 15_000 && met.1 > 10_000, "{met:?}");
 }
 
 #[test]
@@ -72,21 +87,25 @@ fn hosts_have_one_form_each() {
 }
 
 /// Only a text with an encoding typed in place of a label could share the form.
-/// It is refused: with 17 where the encoding is leftmost, else with 12.
+/// It is refused: with 17 where the encoding is leftmost, else with 12, which takes a
+/// Japanese prefecture label and comes in edition 4 alone.
 #[test]
 fn nothing_stands_in_for_a_name() {
+    let (mut leftmost, mut middle) = ([0; 4], [0; 4]);
     let maker = NameMaker::default();
-    let (mut leftmost, mut middle) = (0, 0);
-    for text in texts("A", |random| maker.typed_name(random)) {
-        let Ok(accepted) = name::check(&text) else { continue };
-        for other in stand_ins(&text) {
+    let texts = texts("A", |random| typed_or_sprinkled(&maker, random));
+    for (text, edition) in texts.iter().flat_map(|text| EDITIONS.map(|edition| (text, edition))) {
+        let Ok(accepted) = name::check(text, edition) else { continue };
+        for other in stand_ins(text, edition) {
             let kept = normal::labels(&other)[0] == accepted.labels[0];
             let number = if kept { 12 } else { 17 };
-            assert_eq!(name::check(&other), Err(Refusal::plain(number)), "{text:x?}");
-            (leftmost, middle) = (leftmost + usize::from(!kept), middle + usize::from(kept));
+            assert_eq!(name::check(&other, edition), Err(Refusal::plain(number)), "{text:x?}");
+            leftmost[edition.order()] += usize::from(!kept);
+            middle[edition.order()] += usize::from(kept);
         }
     }
-    assert!(leftmost > 10_000 && middle > 1_000, "{leftmost} leftmost, {middle} in the middle");
+    assert!(leftmost.iter().all(|times| *times > 10_000), "{leftmost:?} leftmost");
+    assert!(middle[..3] == [0; 3] && middle[3] > 1_000, "{middle:?} in the middle");
 }
 
 /// Of a host it is 17 at the first such label, wherever that stands.
@@ -99,7 +118,7 @@ fn nothing_stands_in_for_a_host() {
             continue;
         }
         let labels = normal::labels(&normal::normal_form(&text));
-        for other in stand_ins(&text) {
+        for other in stand_ins(&text, Edition::Today) {
             let typed = normal::labels(&other);
             let place = (0..labels.len()).find(|at| typed[*at] != labels[*at]).unwrap();
             assert_eq!(host::ascii_form(&other), Err(Refusal::at(17, place)), "{text:x?}");
@@ -114,12 +133,12 @@ fn nothing_stands_in_for_a_host() {
 #[test]
 fn without_17_two_names_shared_a_form() {
     let (kana, plain) = (points("\u{3042}.jp"), points("xn--l8j.jp"));
-    assert_eq!(grammar::class_of(&kana), Some(Class::GeneralUse));
-    assert_eq!(grammar::class_of(&plain), Some(Class::GeneralUse));
-    assert_eq!(name::ascii_form(&kana).unwrap().form, "xn--l8j.jp");
-    assert_eq!(stand_ins(&kana), [plain.clone()]);
+    assert_eq!(grammar::class_of(&kana, Edition::Today), Some(Class::GeneralUse));
+    assert_eq!(grammar::class_of(&plain, Edition::Today), Some(Class::GeneralUse));
+    assert_eq!(name::ascii_form(&kana, Edition::Today).unwrap().form, "xn--l8j.jp");
+    assert_eq!(stand_ins(&kana, Edition::Today), [plain.clone()]);
     for label in ["xn--l8j", "jp"] {
-        assert_eq!(name::label_form(&points(label)), Ok(label.to_string()));
+        assert_eq!(name::label_form(&points(label), Edition::Today), Ok(label.to_string()));
     }
-    assert_eq!(name::ascii_form(&plain), Err(Refusal::plain(17)));
+    assert_eq!(name::ascii_form(&plain, Edition::Today), Err(Refusal::plain(17)));
 }

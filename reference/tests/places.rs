@@ -5,8 +5,8 @@ use reference::answer::{Answer, Class, LabelPlaces};
 use reference::cases::numbers_of;
 use reference::cases::places::CALLS;
 use reference::cases::random::NameMaker;
-use reference::chars::is_japanese;
 use reference::coder::encode_by_insertion;
+use reference::edition::{Edition, EDITIONS};
 use reference::live::Live;
 use reference::normal::{labels, normal_form, replaced};
 use reference::random::Random;
@@ -20,7 +20,7 @@ const ON_TEXTS: &str = "NCcAaLlJjMRPHhGgVv";
 
 /// The texts of the cases, and random names as typed, each with a damaged copy.
 fn texts() -> Vec<Vec<u32>> {
-    let lines = cases::all_lines();
+    let lines = cases::well_formed_lines();
     let chosen = lines.iter().filter(|line| ON_TEXTS.contains(&line[..1]));
     let mut texts: Vec<Vec<u32>> = chosen.map(|line| numbers_of(line)).collect();
     let mut random = Random::seeded(7);
@@ -33,16 +33,25 @@ fn texts() -> Vec<Vec<u32>> {
     texts
 }
 
-/// What the check answers, given room.
-fn checked(text: &[u32]) -> Answer {
-    calls::check(text, &mut [0; 256])
+/// What the check answers by the rules of an edition, given room.
+fn checked_in(text: &[u32], edition: Edition) -> Answer {
+    calls::check(text, edition.number(), &mut [0; 256])
 }
 
-/// The texts that are accepted, and what the check answers.
-fn accepted() -> Vec<(Vec<u32>, Answer)> {
-    let answered = texts().into_iter().map(|text| (text.clone(), checked(&text)));
-    let accepted: Vec<_> = answered.filter(|(_, answer)| answer.number == 0).collect();
-    assert!(accepted.len() > 20_000, "{} accepted", accepted.len());
+/// The same by today's.
+fn checked(text: &[u32]) -> Answer {
+    checked_in(text, Edition::Today)
+}
+
+/// The texts that are accepted in some edition, that edition, and what the check
+/// answers.
+fn accepted() -> Vec<(Vec<u32>, Edition, Answer)> {
+    let texts = texts();
+    let asked = texts.iter().flat_map(|text| EDITIONS.map(|edition| (text, edition)));
+    let answered = asked.map(|(text, edition)| (text.clone(), edition, checked_in(text, edition)));
+    let accepted: Vec<_> = answered.filter(|(_, _, answer)| answer.number == 0).collect();
+    let early = accepted.iter().filter(|(text, ..)| text.contains(&0x3003)).count();
+    assert!(accepted.len() > 80_000 && early > 300, "{} accepted, {early} with 3003", accepted.len());
     accepted
 }
 
@@ -75,7 +84,7 @@ fn without_the_rest(places: &LabelPlaces) -> LabelPlaces {
 
 #[test]
 fn labels_stand_between_the_periods_of_the_normal_form() {
-    for (text, answer) in accepted() {
+    for (text, _, answer) in accepted() {
         let found = between_periods(&normal_form(&text));
         assert_eq!(answer.labels.count, found.len(), "{text:x?}");
         assert_eq!(counted(&answer.labels), found, "{text:x?}");
@@ -88,21 +97,21 @@ fn labels_stand_between_the_periods_of_the_normal_form() {
 /// The pieces are the labels. Joined by periods they give back the normal form.
 #[test]
 fn labels_that_are_cut_out_and_joined_give_back_the_normal_form() {
-    for (text, answer) in accepted() {
+    for (text, edition, answer) in accepted() {
         let normal = normal_form(&text);
         let pieces = pieces(&normal, &answer.labels);
         assert_eq!(pieces.join(&PERIOD), normal, "{text:x?}");
         assert_eq!(pieces, labels(&normal), "{text:x?}");
         assert_eq!(pieces.last(), Some(&points("jp")), "{text:x?}");
         if pieces.len() == 3 {
-            assert!(name::is_prefecture_label(&pieces[1]), "{text:x?}");
+            assert!(name::is_prefecture_label(&pieces[1], edition), "{text:x?}");
         }
     }
 }
 
 #[test]
 fn general_use_names_have_two_labels_and_prefecture_names_three() {
-    for (text, answer) in accepted() {
+    for (text, _, answer) in accepted() {
         let count = match answer.class {
             Some(Class::GeneralUse) => 2,
             Some(Class::Prefecture) => 3,
@@ -116,13 +125,13 @@ fn general_use_names_have_two_labels_and_prefecture_names_three() {
 /// ASCII form.
 #[test]
 fn labels_that_are_cut_out_are_those_of_the_ascii_form() {
-    let form = |piece: &Vec<u32>| match piece.iter().any(|code| is_japanese(*code)) {
+    let form = |piece: &Vec<u32>| match piece.iter().any(|code| *code >= 0x80) {
         true => format!("xn--{}", encode_by_insertion(piece)),
         false => piece.iter().filter_map(|code| char::from_u32(*code)).collect(),
     };
-    for (text, answer) in accepted() {
+    for (text, edition, answer) in accepted() {
         let pieces = pieces(&normal_form(&text), &answer.labels);
-        let formed = name::ascii_form(&text).unwrap().form;
+        let formed = name::ascii_form(&text, edition).unwrap().form;
         let labels: Vec<&str> = formed.split('.').collect();
         assert_eq!(pieces.iter().map(form).collect::<Vec<_>>(), labels, "{text:x?}");
     }
@@ -132,9 +141,9 @@ fn labels_that_are_cut_out_are_those_of_the_ascii_form() {
 #[test]
 fn normalising_first_changes_no_place() {
     let mut shorter = 0;
-    for (text, answer) in accepted() {
+    for (text, edition, answer) in accepted() {
         let normal = normal_form(&text);
-        assert_eq!(checked(&normal).labels, answer.labels, "{text:x?}");
+        assert_eq!(checked_in(&normal, edition).labels, answer.labels, "{text:x?}");
         shorter += usize::from(normal.len() < text.len());
     }
     assert!(shorter > 3_000, "{shorter} texts are shorter in normal form");
@@ -146,7 +155,7 @@ fn refused_texts_have_no_places() {
     let none = LabelPlaces::default();
     let mut seen = BTreeSet::new();
     for text in texts() {
-        let short = calls::check(&text, &mut [0; 255]);
+        let short = calls::check(&text, Edition::Today.number(), &mut [0; 255]);
         assert_eq!((short.number, short.labels), (1, none), "{text:x?}");
         let answer = checked(&text);
         if answer.number != 0 {
@@ -176,7 +185,7 @@ fn live_check_shows_the_places_of_every_beginning() {
             text.extend(maker.typed_name(&mut random));
         }
         text.extend(points([".", ".jp", "x", "\u{309B}", "-a"][round % 5]));
-        let mut live = Live::fresh();
+        let mut live = Live::fresh(Edition::Today.number());
         for end in 0..=text.len() {
             let (shown, answer) = (live.look(), checked(&text[..end]));
             assert_eq!((shown.number, shown.class), (answer.number, answer.class), "{text:x?}");
@@ -194,9 +203,10 @@ fn live_check_shows_the_places_of_every_beginning() {
 #[test]
 fn the_check_alone_has_places_in_its_answer() {
     for text in ["abc.jp", "\u{3042}.tokyo.jp"].map(points) {
-        let octets = [calls::ascii_form, calls::host_form].map(|call| call(&text, &mut [0; 255]).labels);
+        let form = calls::ascii_form(&text, 4, &mut [0; 192]).labels;
+        let host = calls::host_form(&text, &mut [0; 255]).labels;
         let normal = calls::normal_form(&text, &mut [0; 256]).labels;
-        assert!(octets.into_iter().chain([normal]).all(|labels| labels == LabelPlaces::default()));
+        assert!([form, host, normal].into_iter().all(|labels| labels == LabelPlaces::default()));
         assert_ne!(checked(&text).labels, LabelPlaces::default());
     }
 }
@@ -254,7 +264,7 @@ fn typed_starts(text: &[u32]) -> Vec<usize> {
 /// not.
 #[test]
 fn the_answers_of_the_cases_are_cut_by_their_words() {
-    let lines = cases::all_lines();
+    let lines = cases::well_formed_lines();
     for line in lines.iter().filter(|line| CALLS.iter().any(|(call, _)| line.starts_with(*call))) {
         let answer = probe::answer(line.as_bytes());
         let words: Vec<&str> = answer.split(' ').collect();
@@ -275,7 +285,7 @@ fn the_answers_of_the_cases_are_cut_by_their_words() {
 /// labels start elsewhere in the text than in the normal form.
 #[test]
 fn the_cases_pin_the_places() {
-    let lines = cases::all_lines();
+    let lines = cases::well_formed_lines();
     for (call, _lent) in CALLS {
         let mut counts = [0; 4];
         let mut refused = BTreeSet::new();
@@ -314,14 +324,18 @@ fn the_cases_pin_the_places() {
 /// that shrinks.
 #[test]
 fn labels_of_every_length_and_every_prefecture_label_come_up() {
-    let lines = cases::all_lines();
+    let lines = cases::well_formed_lines();
     let mut lengths = BTreeSet::new();
     let mut middle = BTreeSet::new();
     for line in lines.iter().filter(|line| CALLS.iter().any(|(call, _)| line.starts_with(*call))) {
         let text = numbers_of(line);
-        let Ok(accepted) = name::check(&text) else { continue };
+        let Ok(accepted) = name::check(&text, Edition::Today) else { continue };
         let leftmost = &accepted.labels[0];
-        lengths.insert((leftmost.len(), name::is_japanese_label(leftmost), accepted.labels.len()));
+        lengths.insert((
+            leftmost.len(),
+            name::is_japanese_label(leftmost, Edition::Today),
+            accepted.labels.len(),
+        ));
         if accepted.labels.len() == 3 && typed_starts(&text)[0] > leftmost.len() + 1 {
             middle.insert(accepted.labels[1].clone());
         }
@@ -338,12 +352,13 @@ fn labels_of_every_length_and_every_prefecture_label_come_up() {
 /// too. None of them is a name again, so none has places.
 #[test]
 fn names_that_are_typed_on_come_up() {
-    let lines = cases::all_lines();
+    let lines = cases::well_formed_lines();
     for (call, _lent) in CALLS {
         let texts = lines.iter().filter(|line| line.starts_with(call)).map(|line| numbers_of(line));
-        let was_name = |text: &Vec<u32>| (0..text.len()).any(|end| name::check(&text[..end]).is_ok());
+        let was_name =
+            |text: &Vec<u32>| (0..text.len()).any(|end| name::check(&text[..end], Edition::Today).is_ok());
         let typed_on: Vec<Vec<u32>> = texts.filter(was_name).collect();
-        assert!(typed_on.iter().all(|text| name::check(text).is_err()), "{call}");
+        assert!(typed_on.iter().all(|text| name::check(text, Edition::Today).is_err()), "{call}");
         let long = typed_on.iter().filter(|text| text.len() > 256).count();
         assert!(typed_on.len() > 15 && long > 1, "{call}: {} typed on, {long} long", typed_on.len());
     }

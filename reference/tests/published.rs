@@ -4,6 +4,7 @@
 use reference::answer::Class;
 use reference::cases::coder::SAMPLES;
 use reference::cases::{hosts, tried};
+use reference::edition::Edition;
 use reference::{batch, chars, coder, host, name, normal, points, probe};
 
 #[test]
@@ -13,7 +14,7 @@ fn characters_are_as_many_as_document_01_says() {
     assert_eq!(chars::kanji().first(), Some(&0x4E00));
     assert_eq!(chars::kanji().last(), Some(&0x9FA0));
     assert!(!chars::kanji().contains(&0x4EDD));
-    assert_eq!(chars::japanese().len(), 6534);
+    assert_eq!(chars::japanese(Edition::Today).len(), 6534);
 }
 
 #[test]
@@ -68,7 +69,7 @@ fn prefecture_labels_are_the_code_points_of_document_004() {
 #[test]
 fn tried_names_of_document_01_and_requested_ones_of_document_02() {
     for (text, number, place, class, normal) in tried::names().into_iter().chain(tried::requested()) {
-        let found = match name::check(&points(&text)) {
+        let found = match name::check(&points(&text), Edition::Today) {
             Ok(name) => {
                 assert_eq!(name.normal, points(&normal), "{text}");
                 (0, 0, Class::letter(Some(name.class)))

@@ -6,6 +6,7 @@ use super::hosts::HostMaker;
 use super::random::NameMaker;
 use super::{CaseFile, SEED};
 use crate::chars::PERIOD;
+use crate::edition::Edition;
 use crate::name::{self, is_japanese_label, label_form};
 use crate::normal::{labels, normal_form};
 use crate::random::Random;
@@ -16,10 +17,11 @@ const FEW: usize = 4;
 
 /// The texts that one gets by typing encodings in place of Japanese labels of a
 /// text's normal form: for every choice of these labels where there are few, else
-/// for each of them and for all. None where no label is Japanese.
-pub fn stand_ins(text: &[u32]) -> Vec<Vec<u32>> {
+/// for each of them and for all. None where no label is Japanese in the edition.
+pub fn stand_ins(text: &[u32], edition: Edition) -> Vec<Vec<u32>> {
     let labels = labels(&normal_form(text));
-    let japanese: Vec<usize> = (0..labels.len()).filter(|at| is_japanese_label(&labels[*at])).collect();
+    let japanese: Vec<usize> =
+        (0..labels.len()).filter(|at| is_japanese_label(&labels[*at], edition)).collect();
     let all = (1u64 << japanese.len()) - 1;
     let choices: Vec<u64> = match japanese.len() <= FEW {
         true => (1..=all).collect(),
@@ -28,7 +30,7 @@ pub fn stand_ins(text: &[u32]) -> Vec<Vec<u32>> {
     let typed = |choice: &u64| {
         let mut labels = labels.clone();
         for (_, at) in japanese.iter().enumerate().filter(|(order, _)| choice >> order & 1 == 1) {
-            labels[*at] = points(&label_form(&labels[*at]).expect("a label that has a form"));
+            labels[*at] = points(&label_form(&labels[*at], edition).expect("a label that has a form"));
         }
         labels.join(&PERIOD)
     };
@@ -39,7 +41,7 @@ pub fn stand_ins(text: &[u32]) -> Vec<Vec<u32>> {
 fn add_all(file: &mut CaseFile, call: char, lent: usize, text: &[u32]) {
     file.add(call, lent, text);
     file.add(call, lent, &normal_form(text));
-    for other in stand_ins(text) {
+    for other in stand_ins(text, Edition::Today) {
         file.add(call, lent, &other);
     }
 }
@@ -49,7 +51,7 @@ pub fn add(file: &mut CaseFile) {
     let (names, hosts) = (NameMaker::default(), HostMaker::default());
     for _ in 0..120 {
         let text = names.typed_name(&mut random);
-        if name::check(&text).is_ok() {
+        if name::check(&text, Edition::Today).is_ok() {
             add_all(file, 'A', 192, &text);
         }
     }

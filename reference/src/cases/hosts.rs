@@ -5,6 +5,7 @@ use super::names::{wide, LONG_FORMS};
 use super::random::NameMaker;
 use super::{CaseFile, SEED};
 use crate::chars::{kanji_in_rows, PERIOD};
+use crate::edition::Edition;
 use crate::grammar::host_octets;
 use crate::host::OF_HOSTS;
 use crate::name::check_label;
@@ -581,7 +582,7 @@ impl HostMaker {
                 true => points(random.pick::<&str>(&["a", "7", "ns", "jp", "co", "\u{3042}", "\u{30FC}"])),
                 false => self.names.label(random),
             };
-            if check_label(&label, OF_HOSTS, 0).is_ok() {
+            if check_label(&label, OF_HOSTS, Edition::Today, 0).is_ok() {
                 return label;
             }
         }

@@ -5,6 +5,7 @@ pub mod characters;
 pub mod coder;
 pub mod desk;
 pub mod duplicates;
+pub mod editions;
 pub mod forms;
 pub mod hope;
 pub mod hosts;
@@ -44,15 +45,34 @@ pub fn probe_line<T: LowerHex>(call: char, lent: usize, numbers: &[T]) -> String
     line
 }
 
+/// One probe line for a call that takes an edition, any number.
+pub fn probe_line_in<T: LowerHex>(call: char, edition: u32, lent: usize, numbers: &[T]) -> String {
+    let line = probe_line(call, lent, numbers);
+    format!("{call}{edition}{}", &line[1..])
+}
+
 /// The numbers of a probe line.
 pub fn numbers_of(line: &str) -> Vec<u32> {
     let hex = line.split(' ').skip(2);
     hex.map(|word| u32::from_str_radix(word, 16).expect("a number")).collect()
 }
 
+/// The edition that a probe line asks for, or none where it has no number.
+pub fn edition_of(line: &str) -> Option<u32> {
+    line.split(' ').next().and_then(|word| word.get(1..)?.parse().ok())
+}
+
 impl CaseFile {
     pub fn add<T: LowerHex>(&mut self, call: char, lent: usize, numbers: &[T]) {
-        let line = probe_line(call, lent, numbers);
+        self.add_line(probe_line(call, lent, numbers));
+    }
+
+    /// A call that takes an edition.
+    pub fn add_in<T: LowerHex>(&mut self, call: char, edition: u32, lent: usize, numbers: &[T]) {
+        self.add_line(probe_line_in(call, edition, lent, numbers));
+    }
+
+    fn add_line(&mut self, line: String) {
         if self.held.insert(line.clone()) {
             self.lines.push(line);
         }
@@ -112,6 +132,12 @@ impl CaseFile {
     }
 }
 
+/// The case file without its malformed lines.
+pub fn well_formed_lines() -> Vec<String> {
+    let malformed = editions::malformed_lines();
+    all_lines().into_iter().filter(|line| !malformed.contains(line)).collect()
+}
+
 /// The whole case file.
 pub fn all_lines() -> Vec<String> {
     let mut file = CaseFile::default();
@@ -133,5 +159,6 @@ pub fn all_lines() -> Vec<String> {
     duplicates::add(&mut file);
     scripts::add(&mut file);
     places::add(&mut file);
+    editions::add(&mut file);
     file.into_lines()
 }

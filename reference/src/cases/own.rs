@@ -5,6 +5,7 @@ use super::characters::with_jp;
 use super::random::NameMaker;
 use super::{numbers_of, tried, CaseFile, SEED};
 use crate::chars::kanji_in_rows;
+use crate::edition::Edition;
 use crate::name;
 use crate::normal::normal_form;
 use crate::points;
@@ -42,7 +43,7 @@ fn spread(file: &CaseFile) -> Vec<Vec<u32>> {
     let mut texts = BTreeMap::<u8, Vec<Vec<u32>>>::new();
     for line in file.lines.iter().filter(|line| line.starts_with("C 256")) {
         let text = numbers_of(line);
-        let number = name::check(&text).err().map_or(0, |refusal| refusal.number);
+        let number = name::check(&text, Edition::Today).err().map_or(0, |refusal| refusal.number);
         texts.entry(number).or_default().push(text);
     }
     let some = |(number, of_number): (&u8, &Vec<Vec<u32>>)| {

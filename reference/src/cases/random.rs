@@ -2,6 +2,7 @@
 
 use super::{probe_line, CaseFile, SEED};
 use crate::chars::{kanji_in_rows, HYPHEN};
+use crate::edition::Edition;
 use crate::name::{self, japanese_prefectures, latin_prefectures};
 use crate::normal::{compositions, replacements};
 use crate::points;
@@ -204,5 +205,6 @@ pub fn accepted_lines(count: usize, seed: u64) -> impl Iterator<Item = String> {
     let mut random = Random::seeded(seed);
     let maker = NameMaker::default();
     let names = std::iter::from_fn(move || Some(maker.typed_name(&mut random)));
-    names.filter(|text| name::check(text).is_ok()).take(count).map(|text| probe_line('A', 192, &text))
+    let accepted = names.filter(|text| name::check(text, Edition::Today).is_ok());
+    accepted.take(count).map(|text| probe_line('A', 192, &text))
 }

@@ -8,7 +8,7 @@ use crate::points;
 /// normal form (empty where it is refused).
 pub type Tried = (String, u8, usize, char, String);
 
-fn row(text: &str, number: u8, place: usize, class: char, normal: &str) -> Tried {
+pub fn row(text: &str, number: u8, place: usize, class: char, normal: &str) -> Tried {
     (text.to_string(), number, place, class, normal.to_string())
 }
 
