@@ -2,7 +2,7 @@
 -- Assumes nothing.
 use mathlib.Core.Path.{_≡_, refl, sym, ap, _∙_}
 use mathlib.Core.Bool.{Bool, true, false}
-use mathlib.Core.List.{List, _++_}
+use mathlib.Core.List.{List}
 use mathlib.Core.Logic.{⊎-elim}
 use Prim.Native.Nat.{ℕ, suc, _+_, _-_, _≤_, _<_, min}
 use native.Mathlib.Omega.{arith}
@@ -18,8 +18,6 @@ use Rattle.lists.proofs.Laws.{both, by-test, lt-or-le}
 use Rattle.lists.proofs.Pieces.{nothing}
 use Rattle.lists.proofs.Scan.{found-inside}
 use Rattle.lists.proofs.Tables.{passed-over, refused-before}
-use Rattle.normal.specs.Normal.{normalForm}
-use Rattle.rules.specs.Labels.{labels}
 use Rattle.rules.specs.Permits.{Permits}
 use Rattle.rules.specs.Rules.{textRows, verdict}
 use Rattle.rules.proofs.Steps.{front-3, first-25, first-front}

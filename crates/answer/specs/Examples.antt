@@ -4,7 +4,8 @@ use mathlib.Core.List.{List, [], _∷_, _++_, map}
 use Prim.Native.Nat.{ℕ}
 use Rattle.lists.specs.Rows.{first}
 use Rattle.lists.specs.Tests.{within, allOf, anyOf, indexOf, elem, same}
-use Rattle.characters.specs.Characters.{alnum, hyphen, asciiSet, kindLetter, kinds, signs, signsIn, stretch, kindAmong, kindBy}
+use Rattle.characters.specs.Characters.{alnum, hyphen, asciiSet, kindLetter, kinds, signs, signsIn, stretch, kindAmong}
+use Rattle.characters.specs.Characters.{kindBy}
 use Rattle.characters.specs.Characters.{anyKind, kanjiWith, kindWith}
 use Rattle.characters.specs.Compose.{voiced, repeats, halfVoiced, eitherKana, composed}
 use Rattle.characters.specs.KanjiBits.{kanjiBits}
@@ -60,11 +61,11 @@ triedFields =
 
 -- by the bits of the kanji; of the edition in force it is `tried-kinds-today` (proofs/Scripts)
 pub tried-kinds : map (toldOf (todayWith kanjiBits)) triedLabels ≡ triedFields
-unfolding within allOf anyOf indexOf elem same first alnum hyphen asciiSet kindLetter kinds signs signsIn stretch kindAmong
-    kindBy anyKind kanjiWith kindWith voiced repeats halfVoiced eitherKana composed ranges rangeIn halfKana isHalf
-    replaceIn replace replacedFrom compose normalPlaced normalForm places period intoFirst labels jaChar labelChar
-    middle isEmpty sameKind found kindsIn unfit middleDot ordinary isJapanese beginsWithHyphen endsWithHyphen
-    hyphenEdge short long hyphenPair pretends bareDot labelRows jp nameRows frontRows textRows
-    classOf verdict rules latinPrefectures japanesePrefectures prefectures kanjiBits middlesIn editionWith kindsSaid kindLetters kindField
-    triedLabels triedFields
+unfolding within allOf anyOf indexOf elem same first alnum hyphen asciiSet kindLetter kinds signs signsIn stretch
+    kindAmong kindBy anyKind kanjiWith kindWith voiced repeats halfVoiced eitherKana composed ranges rangeIn halfKana
+    isHalf replaceIn replace replacedFrom compose normalPlaced normalForm places period intoFirst labels jaChar
+    labelChar middle isEmpty sameKind found kindsIn unfit middleDot ordinary isJapanese beginsWithHyphen
+    endsWithHyphen hyphenEdge short long hyphenPair pretends bareDot labelRows jp nameRows frontRows textRows classOf
+    verdict rules latinPrefectures japanesePrefectures prefectures kanjiBits middlesIn editionWith kindsSaid
+    kindLetters kindField triedLabels triedFields
 tried-kinds = refl

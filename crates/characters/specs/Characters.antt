@@ -42,8 +42,8 @@ signs = 0x30FB ∷ 0x30FD ∷ 0x30FE ∷ 0x309D ∷ 0x309E ∷ 0x4EDD ∷ 0x3005
 unfoldable pub signsIn : ℕ → List ℕ
 signsIn edition = pick (eqb edition 1) (0x3003 ∷ signs) signs
 
--- the stretch of each kind: 3041 to 3093, 30A1 to 30F6, the kanji, the signs of row 1; over which code points are kanji,
--- and the edition
+-- the stretch of each kind: 3041 to 3093, 30A1 to 30F6, the kanji, the signs of row 1; over which code points are
+-- kanji, and the edition
 unfoldable pub stretch : (ℕ → Bool) → ℕ → Kind → ℕ → Bool
 stretch isKanji edition Hiragana c = within 0x3041 0x3093 c
 stretch isKanji edition Katakana c = within 0x30A1 0x30F6 c

@@ -5,7 +5,8 @@ use mathlib.Core.List.{List, [], _∷_, _++_}
 use Prim.Native.Nat.{ℕ}
 use Rattle.lists.specs.Rows.{first}
 use Rattle.lists.specs.Tests.{within, allOf, anyOf, indexOf, elem, same}
-use Rattle.characters.specs.Characters.{hyphen, asciiSet, kindLetter, kinds, signs, signsIn, stretch, kindAmong, kindBy, kind}
+use Rattle.characters.specs.Characters.{hyphen, asciiSet, kindLetter, kinds, signs, signsIn, stretch, kindAmong, kindBy}
+use Rattle.characters.specs.Characters.{kind}
 use Rattle.characters.specs.Characters.{anyKind}
 use Rattle.characters.specs.Compose.{voiced, repeats, halfVoiced, eitherKana, composed}
 use Rattle.characters.specs.Kanji.{kanji}
@@ -53,10 +54,10 @@ unfolding input output first within allOf anyOf indexOf elem same Rattle.charac
     composed kanji ranges rangeIn Rattle.characters.specs.Replace.classOf halfKana isHalf replaceIn replace
     replacedFrom compose normalPlaced normalForm places coderNumber digit adaptLoop damped adapt threshold varint add
     emit point points nearer least passes below delimiter initial extended encode ace
-    Rattle.punycode.specs.Punycode.alnum ldh wide allowed encodable middle middlesIn editionOf period intoFirst labels join jaChar
-    labelChar isEmpty latinPrefectures japanesePrefectures prefectures unfit middleDot ordinary isJapanese beginsWithHyphen endsWithHyphen hyphenEdge short
-    long hyphenPair pretends bareDot labelRows jp nameRows frontRows textRows Rattle.rules.specs.Rules.classOf verdict
-    asciiLabel asciiForm uncoded asciiRows tab idOf nameOf oneTab idByte goodId badLine decimalBy decimal letter
-    sameKind found kindsIn kindsSaid kindLetters kindField answerLine goodAnswer answerTo lf linesFrom lines answers
-    batch scalar proper decodeFrom
+    Rattle.punycode.specs.Punycode.alnum ldh wide allowed encodable middle middlesIn editionOf period intoFirst labels
+    join jaChar labelChar isEmpty latinPrefectures japanesePrefectures prefectures unfit middleDot ordinary isJapanese
+    beginsWithHyphen endsWithHyphen hyphenEdge short long hyphenPair pretends bareDot labelRows jp nameRows frontRows
+    textRows Rattle.rules.specs.Rules.classOf verdict asciiLabel asciiForm uncoded asciiRows tab idOf nameOf oneTab
+    idByte goodId badLine decimalBy decimal letter sameKind found kindsIn kindsSaid kindLetters kindField answerLine
+    goodAnswer answerTo lf linesFrom lines answers batch scalar proper decodeFrom
 printed = refl

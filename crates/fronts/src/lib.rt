@@ -1,6 +1,7 @@
 // What every family of names asks of a text first: its normal form, which 2 and 3 may refuse, and the first unfit character of that form,
-// which brings 4. The call takes any text and any lent buffer and says all of its result; a refusal writes nothing. Its meaning is defined in
-// specs/Fronts, over the rows 2 to 4 of `rules` (specs/Rules: frontRows).
+// which brings 4. The call takes any edition, any text and any lent buffer and says all of its result; a refusal writes nothing. 25 is not
+// among its numbers: whether there is such an edition is asked by who refuses with it. Its meaning is defined in specs/Fronts,
+// over the rows 2 to 4 of `rules` (specs/Rules: frontRows).
 use labels::first_unfit_with;
 ghost use Rattle.rules.specs.Editions.{editionWith};
 ghost use Rattle.fronts.specs.Fronts.{Fronts};

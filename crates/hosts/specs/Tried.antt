@@ -9,7 +9,8 @@ use Rattle.lists.specs.Tests.{within, allOf, anyOf, indexOf, elem}
 use Rattle.lists.specs.Rows.{Row, accepted, first, without}
 use Rattle.lists.specs.declared.Answer.{Answer}
 use Rattle.characters.specs.KanjiBits.{kanjiBits}
-use Rattle.characters.specs.Characters.{alnum, hyphen, asciiSet, kinds, signs, signsIn, stretch, kindAmong, kindBy, anyKind}
+use Rattle.characters.specs.Characters.{alnum, hyphen, asciiSet, kinds, signs, signsIn, stretch, kindAmong, kindBy}
+use Rattle.characters.specs.Characters.{anyKind}
 use Rattle.characters.specs.Characters.{kanjiWith, kindWith}
 use Rattle.characters.specs.Replace.{ranges, rangeIn, halfKana, isHalf, replaceIn, replace}
 use Rattle.characters.specs.Compose.{voiced, repeats, halfVoiced, eitherKana, composed}
@@ -165,11 +166,12 @@ table =
     []
 
 pub tried : map (said (todayWith kanjiBits)) table ≡ map meant table
-unfolding within allOf anyOf indexOf elem first without alnum hyphen asciiSet kinds signs signsIn stretch kindAmong kindBy
-    anyKind kanjiWith kindWith ranges rangeIn halfKana isHalf replaceIn replace voiced repeats halfVoiced eitherKana
-    composed replacedFrom compose normalPlaced normalForm places digit adaptLoop damped adapt threshold varint add
-    emit point points nearer least passes below delimiter initial extended encode ace Puny.alnum ldh wide allowed
-    encodable coderNumber period intoFirst labels join jaChar labelChar isEmpty unfit middleDot ordinary isJapanese
-    beginsWithHyphen endsWithHyphen hyphenEdge short long hyphenPair pretends bareDot labelRows frontRows eachRows
-    hostRows hostTextRows middlesIn editionWith asciiLabel asciiForm uncoded codedRows rows hostRules callRows inTurn halfGa
+unfolding within allOf anyOf indexOf elem first without alnum hyphen asciiSet kinds signs signsIn stretch kindAmong
+    kindBy anyKind kanjiWith kindWith ranges rangeIn halfKana isHalf replaceIn replace voiced repeats halfVoiced
+    eitherKana composed replacedFrom compose normalPlaced normalForm places digit adaptLoop damped adapt threshold
+    varint add emit point points nearer least passes below delimiter initial extended encode ace Puny.alnum ldh wide
+    allowed encodable coderNumber period intoFirst labels join jaChar labelChar isEmpty unfit middleDot ordinary
+    isJapanese beginsWithHyphen endsWithHyphen hyphenEdge short long hyphenPair pretends bareDot labelRows frontRows
+    eachRows hostRows hostTextRows middlesIn editionWith asciiLabel asciiForm uncoded codedRows rows hostRules
+    callRows inTurn halfGa
 tried = refl

@@ -80,7 +80,7 @@ pub fn to_ascii_with(kanji: &[u32], text: &[u32], out: &mut [u8]) -> HostForm
     }
 }
 
-// The same by the kanji of this edition.
+// The same by the kanji themselves.
 pub fn to_ascii(text: &[u32], out: &mut [u8]) -> HostForm
     ensures { λ r. ⌜ HostForms today (now (text .entry)) (now (out .entry)) (now (out .exit)) r ⌝ }
 {

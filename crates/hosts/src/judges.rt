@@ -62,7 +62,7 @@ pub fn judge_with(kanji: &[u32], text: &[u32]) -> HostJudged
     }
 }
 
-// The same by the kanji of this edition.
+// The same by the kanji themselves.
 pub fn judge(text: &[u32]) -> HostJudged
     ensures { λ r. ⌜ r ≡ hostJudged today (now (text .entry)) ⌝ }
 {

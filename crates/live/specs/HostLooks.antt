@@ -1,6 +1,6 @@
 -- The live check at the rules of a host: document 02, K10. The state and its steps are those of specs/Live; a look at
--- it shows what is said of the text so far as a nameserver's host name. Hosts stay with the edition in force (K12): that
--- of the state is not asked.
+-- it shows what is said of the text so far as a nameserver's host name. Hosts stay with the edition in force (K12):
+-- that of the state is not asked.
 use mathlib.Core.Path.{_≡_}
 use lib.ListN.{replicate}
 use Rattle.rules.specs.Permits.{Permits}

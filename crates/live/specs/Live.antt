@@ -1,5 +1,5 @@
--- The live check: document 01, 'The live check', with the editions of document 02, K12. A state, what a step makes of it, what a look shows, and whether
--- what was typed may yet become a name, of any state.
+-- The live check: document 01, 'The live check', with the editions of document 02, K12. A state, what a step makes of it,
+-- what a look shows, and whether what was typed may yet become a name, of any state.
 use mathlib.Core.Bool.{Bool, false}
 use mathlib.Core.List.{List, [], _∷_}
 use mathlib.Core.Path.{_≡_}

@@ -4,7 +4,8 @@ use mathlib.Core.List.{List, [], _∷_, map}
 use Prim.Native.Nat.{ℕ}
 use Rattle.lists.specs.Rows.{first}
 use Rattle.lists.specs.Tests.{within, allOf, anyOf, indexOf, elem, same}
-use Rattle.characters.specs.Characters.{alnum, hyphen, asciiSet, kinds, signs, signsIn, stretch, kindAmong, kindBy, anyKind}
+use Rattle.characters.specs.Characters.{alnum, hyphen, asciiSet, kinds, signs, signsIn, stretch, kindAmong, kindBy}
+use Rattle.characters.specs.Characters.{anyKind}
 use Rattle.characters.specs.Characters.{kanjiWith, kindWith}
 use Rattle.characters.specs.Compose.{voiced, repeats, halfVoiced, eitherKana, composed}
 use Rattle.characters.specs.KanjiBits.{kanjiBits}
@@ -56,10 +57,11 @@ AsPlaced P = map (λ (p : Placed). judged P (p .text) .labels) placedTexts ≡ m
 
 -- by the bits of the kanji; of the edition in force it is `placed-today` (proofs/Placing)
 pub as-placed : AsPlaced (todayWith kanjiBits)
-unfolding within allOf anyOf indexOf elem same first alnum hyphen asciiSet kinds signs signsIn stretch kindAmong kindBy
-    anyKind kanjiWith kindWith voiced repeats halfVoiced eitherKana composed ranges rangeIn halfKana isHalf replaceIn
-    replace replacedFrom compose normalPlaced normalForm places period intoFirst labels jaChar labelChar middle isEmpty
-    unfit middleDot ordinary isJapanese beginsWithHyphen endsWithHyphen hyphenEdge short long hyphenPair pretends
-    bareDot labelRows jp nameRows frontRows textRows classOf verdict rules latinPrefectures japanesePrefectures prefectures kanjiBits middlesIn editionWith startsFrom
-    firstThree labelPlaces placesSaid judged placedTexts
+unfolding within allOf anyOf indexOf elem same first alnum hyphen asciiSet kinds signs signsIn stretch kindAmong
+    kindBy anyKind kanjiWith kindWith voiced repeats halfVoiced eitherKana composed ranges rangeIn halfKana isHalf
+    replaceIn replace replacedFrom compose normalPlaced normalForm places period intoFirst labels jaChar labelChar
+    middle isEmpty unfit middleDot ordinary isJapanese beginsWithHyphen endsWithHyphen hyphenEdge short long
+    hyphenPair pretends bareDot labelRows jp nameRows frontRows textRows classOf verdict rules latinPrefectures
+    japanesePrefectures prefectures kanjiBits middlesIn editionWith startsFrom firstThree labelPlaces placesSaid
+    judged placedTexts
 as-placed = refl

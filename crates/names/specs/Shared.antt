@@ -8,7 +8,8 @@ use Prim.Native.Nat.{ℕ}
 use Rattle.lists.specs.Tests.{within, allOf, anyOf, indexOf, elem, same}
 use Rattle.lists.specs.Rows.{first, without}
 use Rattle.characters.specs.KanjiBits.{kanjiBits}
-use Rattle.characters.specs.Characters.{alnum, hyphen, asciiSet, kinds, signs, signsIn, stretch, kindAmong, kindBy, anyKind}
+use Rattle.characters.specs.Characters.{alnum, hyphen, asciiSet, kinds, signs, signsIn, stretch, kindAmong, kindBy}
+use Rattle.characters.specs.Characters.{anyKind}
 use Rattle.characters.specs.Characters.{kanjiWith, kindWith}
 use Rattle.characters.specs.Replace.{ranges, rangeIn, halfKana, isHalf, replaceIn, replace}
 use Rattle.characters.specs.Compose.{voiced, repeats, halfVoiced, eitherKana, composed}

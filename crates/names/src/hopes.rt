@@ -108,8 +108,7 @@ fn form_grows(kanji: &[u32], edition: u32, form: &[u32]) -> bool
 pub fn may_become_with(kanji: &[u32], edition: u32, text: &[u32]) -> bool
     ensures { λ r. ⌜ r ≡ hopeful (editionWith (now (kanji .entry)) edition) (now (text .entry)) ⌝ }
 {
-    let known = is_edition(edition);
-    if !known {
+    if !is_edition(edition) {
         return false;
     }
     if text.len() == 0 {

@@ -111,8 +111,7 @@ fn name_rules(kanji: &[u32], edition: u32, form: &[u32]) -> Verdict
         return two_labels(kanji, edition, &form[0..a], &form[a + 1..n]);
     }
     if ends.count == 3 {
-        let may = has_prefectures(edition);
-        if !may {
+        if !has_prefectures(edition) {
             return refused(LABEL_COUNT, 0);
         }
         return three_labels(
@@ -141,8 +140,7 @@ pub(crate) fn judge_into(kanji: &[u32], edition: u32, text: &[u32], form: &mut [
 {
     let front = front_with(kanji, edition, text, form);
     let length = front.length;
-    let known = is_edition(edition);
-    if !known {
+    if !is_edition(edition) {
         return Ruled {
             number: NO_EDITION,
             place: 0,

@@ -144,8 +144,7 @@ pub fn to_ascii_with(kanji: &[u32], edition: u32, text: &[u32], out: &mut [u8]) 
     if out.len() < 192 {
         return refused_form(NO_ROOM, 0);
     }
-    let known = is_edition(edition);
-    if !known {
+    if !is_edition(edition) {
         return refused_form(NO_EDITION, 0);
     }
     if !ends_in_jp(text) {

@@ -94,12 +94,16 @@ fn on_octets(
     }
 }
 
+// Does the call name its own table? Its letter is in lower case then.
+fn is_own(call: u8) -> bool {
+    b'a' <= call
+}
+
 // A call on a name, by an edition. It is lent the table of kanji, or names its own.
 fn on_name(
     kanji: &[u32],
     edition: u32,
     call: u8,
-    own: bool,
     text: &[u32],
     room: usize,
     out: &mut [u8],
@@ -107,6 +111,7 @@ fn on_name(
 ) -> usize
     requires { ⌜ room ≤ 300 ⌝ }
 {
+    let own = is_own(call);
     match call {
         b'A' | b'a' => named::to_ascii(kanji, edition, own, text, room, out, o),
         b'C' | b'c' => named::check(kanji, edition, own, text, room, out, o),
@@ -121,7 +126,6 @@ fn on_host(
     kanji: &[u32],
     edition: u32,
     call: u8,
-    own: bool,
     text: &[u32],
     room: usize,
     out: &mut [u8],
@@ -129,6 +133,7 @@ fn on_host(
 ) -> usize
     requires { ⌜ room ≤ 300 ⌝ }
 {
+    let own = is_own(call);
     match call {
         b'H' | b'h' => hosted::to_ascii(kanji, own, text, room, out, o),
         b'G' | b'g' => hosted::judge(kanji, own, text, out, o),
@@ -146,7 +151,7 @@ fn takes_edition(call: u8) -> bool {
     }
 }
 
-// The call of a case on its numbers. A letter in lower case is a call that names its own table.
+// The call of a case on its numbers.
 fn call(
     kanji: &[u32],
     edition: u32,
@@ -160,28 +165,10 @@ fn call(
     requires { ⌜ length (now numbers) ≤ 2000 ⌝ }
 {
     match call {
-        b'A' | b'C' | b'J' | b'L' | b'S' => on_name(
-            kanji,
-            edition,
-            call,
-            false,
-            numbers,
-            room,
-            out,
-            o,
-        ),
-        b'a' | b'c' | b'j' | b'l' | b's' => on_name(
-            kanji,
-            edition,
-            call,
-            true,
-            numbers,
-            room,
-            out,
-            o,
-        ),
-        b'G' | b'H' | b'V' => on_host(kanji, edition, call, false, numbers, room, out, o),
-        b'g' | b'h' | b'v' => on_host(kanji, edition, call, true, numbers, room, out, o),
+        b'A' | b'C' | b'J' | b'L' | b'S' => on_name(kanji, edition, call, numbers, room, out, o),
+        b'a' | b'c' | b'j' | b'l' | b's' => on_name(kanji, edition, call, numbers, room, out, o),
+        b'G' | b'H' | b'V' => on_host(kanji, edition, call, numbers, room, out, o),
+        b'g' | b'h' | b'v' => on_host(kanji, edition, call, numbers, room, out, o),
         b'B' | b'D' | b'F' | b'U' | b'W' => on_octets(kanji, call, numbers, room, out, o),
         b'E' => encode(numbers, room, out, o),
         b'I' => printed::put_flag(out, o, names::is_edition(edition)),

@@ -139,7 +139,7 @@ pub fn reads_with(kanji: &[u32], label: &[u32]) -> bool
     false
 }
 
-// The same by the kanji of this edition.
+// The same by the kanji themselves.
 pub fn reads(label: &[u32]) -> bool
     ensures { λ r. ⌜ r ≡ reader today (now (label .entry)) ⌝ }
 {

@@ -3,7 +3,7 @@
 -- bits of the kanji lent as a table give the same editions, since they say which code points are kanji.
 -- Assumes nothing.
 use mathlib.Core.Path.{_≡_, refl, sym, ap, subst, _∙_}
-use mathlib.Core.Bool.{Bool, true, not, _||_}
+use mathlib.Core.Bool.{Bool, true, not}
 use mathlib.Core.List.{List, []}
 use Prim.Native.Nat.{ℕ}
 use lib.Dec.{eqb, leb}
@@ -17,7 +17,7 @@ use Rattle.characters.specs.KanjiBits.{kanjiBits}
 use Rattle.characters.proofs.Bounds.{with-bounds}
 use Rattle.characters.proofs.OneKind.{any-but-none, still-japanese}
 use Rattle.characters.proofs.Lent as Lent
-use Rattle.characters.specs.Characters.{alnum, hyphen, asciiSet, kinds, signs, signsIn, stretch, kindAmong, kindBy, kind, anyKind, japaneseBy, japanese}
+use Rattle.characters.specs.Characters.{alnum, hyphen, asciiSet, kinds, signs, signsIn, stretch, kindAmong, kindBy, kind, anyKind, japanese}
 use Rattle.rules.specs.Permits.{Permits, InStretch, ShortMiddles, Laws, jaChar, labelChar, middle, isEmpty}
 use Rattle.rules.specs.Prefectures.{latinPrefectures, japanesePrefectures, prefectures}
 use Rattle.rules.specs.Pretends.{seemsEncoded, PlainMiddles}

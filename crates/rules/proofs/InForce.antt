@@ -1,17 +1,15 @@
 -- Each of the four editions keeps the laws (proofs/Editions), so the theorems hold of it; the edition in force is edition 4. By any other
 -- number every text is refused with 25, and has no hope.
 -- Assumes nothing.
-use mathlib.Core.Path.{_≡_, refl, sym, ap, _∙_}
+use mathlib.Core.Path.{_≡_, refl, _∙_}
 use mathlib.Core.Bool.{true, false}
 use mathlib.Core.List.{List, map}
 use mathlib.Core.Logic.{_↔_}
 use Prim.Native.Nat.{ℕ, _≤_}
-use native.Mathlib.Omega.{arith}
 use lib.ListN.{length}
-use Rattle.lists.specs.Tests.{pick, within, allOf}
+use Rattle.lists.specs.Tests.{pick, within}
 use Rattle.lists.specs.Rows.{Clear}
-use Rattle.lists.specs.declared.Answer.{Answer}
-use Rattle.lists.proofs.Laws.{by-test, refuted}
+use Rattle.lists.proofs.Laws.{by-test}
 use Rattle.characters.specs.Characters.{kind, anyKind, japanese}
 use Rattle.characters.specs.KanjiBits.{kanjiBits}
 use Rattle.characters.specs.declared.Kind.the-variants.{Kanji, None}
@@ -28,7 +26,6 @@ use Rattle.rules.specs.HopefulTried.{Tells, tried-hopeful}
 use Rattle.rules.specs.EditionsTried.{AsTried, as-tried}
 use Rattle.rules.specs.Hopeful.{MayBecome, hopeful}
 use Rattle.rules.specs.declared.Class.{Class}
-use Rattle.rules.specs.declared.Verdict.{Verdict}
 use Rattle.rules.proofs.ReaderAgrees.{reader-agrees}
 use Rattle.rules.proofs.Exactly.{before-derives, accepted-derives, shrank, refused-17}
 use Rattle.rules.proofs.Hosts.{clear-exactly}

@@ -22,7 +22,6 @@ use Rattle.rules.specs.Rules.{frontRows, textRows, classOf, verdict, rul
 use Rattle.rules.specs.Prefectures.{latinPrefectures, japanesePrefectures, prefectures}
 use Rattle.rules.specs.Editions.{middlesIn, editionWith}
 use Rattle.rules.specs.Hopeful.{begins, leftmost, tries, grows, hopeful}
-use Rattle.rules.specs.declared.Class.{Class}
 use Rattle.rules.specs.declared.Class.the-variants.{General, Prefecture}
 use Rattle.rules.specs.declared.Verdict.{Verdict}
 
@@ -36,17 +35,27 @@ pub record InEditions : Type 0 where
   pub said : List Verdict
   pub hope : List Bool
 
+abbrev told : List ℕ → List Verdict → List Bool → InEditions
+told text said hope = record { text = text; said = said; hope = hope }
+
+-- 25 and no hope by the numbers that are none
 abbrev each : List ℕ → Verdict → Verdict → Verdict → Verdict → Bool → Bool → Bool → Bool → InEditions
 each text a b c d h i j k =
-    record {
-      text = text;
-      said = a ∷ b ∷ c ∷ d ∷ replicate 3 (refused 25 0);
-      hope = h ∷ i ∷ j ∷ k ∷ replicate 3 false;
-    }
+    told text (a ∷ b ∷ c ∷ d ∷ replicate 3 (refused 25 0)) (h ∷ i ∷ j ∷ k ∷ replicate 3 false)
 
--- the same in all four
+-- the same in all four; one thing in edition 1 and another from 2 on; three labels, which 1 and 2 refuse; what is only
+-- begun
 abbrev alike : List ℕ → Verdict → Bool → InEditions
 alike text v h = each text v v v v h h h h
+
+abbrev early : List ℕ → Verdict → Verdict → Bool → InEditions
+early text a b h = each text a b b b h false false false
+
+abbrev three : List ℕ → Verdict → Verdict → Bool → Bool → InEditions
+three text c d j k = each text (refused 5 0) (refused 5 0) c d false false j k
+
+abbrev begun : List ℕ → Bool → Bool → InEditions
+begun text j k = let v = refused 11 0 in each text v v v v false false j k
 
 abbrev general : Verdict
 general = accepted General
@@ -67,7 +76,7 @@ abc = 0x61 ∷ 0x62 ∷ 0x63 ∷ []
 unfoldable pub table : List InEditions
 table =
     -- nothing, 257 blanks, a blank: 25 comes before 2, 3 and 4
-    alike [] (refused 2 0) true ∷
+    told [] (replicate 4 (refused 2 0) ++ replicate 3 (refused 25 0)) (replicate 4 true ++ replicate 3 false) ∷
     alike (replicate 257 0x20) (refused 3 256) false ∷
     alike (0x61 ∷ 0x20 ∷ dot-jp) (refused 4 1) false ∷
     -- ABC.JP; ab-c with 2212 for the hyphen (K2); ab--c (K3)
@@ -75,26 +84,28 @@ table =
     alike (0x61 ∷ 0x62 ∷ 0x2212 ∷ 0x63 ∷ dot-jp) general true ∷
     alike (0x61 ∷ 0x62 ∷ 0x2D ∷ 0x2D ∷ 0x63 ∷ dot-jp) (refused 17 0) false ∷
     -- 3003 is Japanese in edition 1 alone, also beside a middle dot, which it helps
-    each (0x3003 ∷ dot-jp) general (refused 4 0) (refused 4 0) (refused 4 0) true false false false ∷
-    each (0x30FB ∷ 0x3003 ∷ dot-jp) general (refused 4 1) (refused 4 1) (refused 4 1) true false false false ∷
-    each (replicate 16 0x3003 ++ dot-jp) (refused 9 0) (refused 4 0) (refused 4 0) (refused 4 0) false false false false ∷
+    early (0x3003 ∷ dot-jp) general (refused 4 0) true ∷
+    early (0x30FB ∷ 0x3003 ∷ dot-jp) general (refused 4 1) true ∷
+    early (replicate 16 0x3003 ++ dot-jp) (refused 9 0) (refused 4 0) false ∷
+    early (0x3003 ∷ latin) (refused 5 0) (refused 4 0) false ∷
     -- three labels: 5 in 1 and 2, where 6 would apply too; Latin labels from 3 on, Japanese ones in 4
-    each (abc ++ latin) (refused 5 0) (refused 5 0) (accepted Prefecture) (accepted Prefecture) false false true true ∷
-    each (abc ++ japanese) (refused 5 0) (refused 5 0) (refused 12 0) (accepted Prefecture) false false false true ∷
-    each latin (refused 5 0) (refused 5 0) (refused 6 0) (refused 6 0) false false false false ∷
-    each (0x3003 ∷ latin) (refused 5 0) (refused 4 0) (refused 4 0) (refused 4 0) false false false false ∷
-    -- begun: abc.na, abc. and a kanji
-    each (abc ++ 0x2E ∷ 0x6E ∷ 0x61 ∷ []) (refused 11 0) (refused 11 0) (refused 11 0) (refused 11 0) false false true true ∷
-    each (abc ++ 0x2E ∷ 0x5948 ∷ []) (refused 11 0) (refused 11 0) (refused 11 0) (refused 11 0) false false false true ∷
+    three (abc ++ latin) (accepted Prefecture) (accepted Prefecture) true true ∷
+    three (abc ++ japanese) (refused 12 0) (accepted Prefecture) false true ∷
+    three latin (refused 6 0) (refused 6 0) false false ∷
+    -- abc.na; abc. and a kanji
+    begun (abc ++ 0x2E ∷ 0x6E ∷ 0x61 ∷ []) true true ∷
+    begun (abc ++ 0x2E ∷ 0x5948 ∷ []) false true ∷
     []
 
--- of a family of editions
+-- what a family of editions says of the texts, whether they have hope, and in which 3003 is found as a sign
 abbrev pub AsTried : (ℕ → Permits) → Type 0
 AsTried E =
-    (map (λ (t : InEditions). map (λ (e : ℕ). rules (E e) (t .text)) asked) table ≡ map (λ (t : InEditions). t .said) table)
-    × (map (λ (t : InEditions). map (λ (e : ℕ). hopeful (E e) (t .text)) asked) table ≡ map (λ (t : InEditions). t .hope) table)
-    -- 3003 is found as a sign, in edition 1
-    × (map (λ (e : ℕ). kindsIn (E e) (0x3042 ∷ 0x3003 ∷ []) .sign) asked ≡ true ∷ replicate 6 false)
+    let said : List ℕ → List Verdict = λ text. map (λ (e : ℕ). rules (E e) text) asked in
+    let hope : List ℕ → List Bool = λ text. map (λ (e : ℕ). hopeful (E e) text) asked in
+    let sign : ℕ → Bool = λ e. kindsIn (E e) (0x3042 ∷ 0x3003 ∷ []) .sign in
+    (map (λ (t : InEditions). said (t .text)) table ≡ map (λ (t : InEditions). t .said) table)
+    × (map (λ (t : InEditions). hope (t .text)) table ≡ map (λ (t : InEditions). t .hope) table)
+    × (map sign asked ≡ true ∷ replicate 6 false)
 
 -- by the bits of the kanji; of the editions themselves it is `tried-editions` (proofs/InForce)
 pub as-tried : AsTried (editionWith kanjiBits)

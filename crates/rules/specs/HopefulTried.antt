@@ -8,7 +8,8 @@ use lib.ListN.{replicate}
 use Rattle.lists.specs.Tests.{within, allOf, anyOf, indexOf, elem, same}
 use Rattle.lists.specs.Rows.{first}
 use Rattle.characters.specs.KanjiBits.{kanjiBits}
-use Rattle.characters.specs.Characters.{alnum, hyphen, asciiSet, kinds, signs, signsIn, stretch, kindAmong, kindBy, anyKind}
+use Rattle.characters.specs.Characters.{alnum, hyphen, asciiSet, kinds, signs, signsIn, stretch, kindAmong, kindBy}
+use Rattle.characters.specs.Characters.{anyKind}
 use Rattle.characters.specs.Characters.{kanjiWith, kindWith}
 use Rattle.characters.specs.Replace.{ranges, rangeIn, halfKana, isHalf, replaceIn, replace}
 use Rattle.characters.specs.Compose.{voiced, repeats, halfVoiced, eitherKana, composed}
@@ -95,9 +96,10 @@ abbrev pub Tells : Permits → Type 0
 Tells P = (says P yes ≡ replicate 19 true) × (says P no ≡ replicate 20 false)
 
 pub tried-hopeful : Tells (todayWith kanjiBits)
-unfolding within allOf anyOf indexOf elem same first alnum hyphen asciiSet kinds signs signsIn stretch kindAmong kindBy
-    anyKind kanjiWith kindWith ranges rangeIn halfKana isHalf replaceIn replace voiced repeats halfVoiced eitherKana
-    composed replacedFrom compose normalPlaced normalForm places period intoFirst labels jaChar labelChar isEmpty
-    unfit middleDot ordinary isJapanese beginsWithHyphen endsWithHyphen hyphenEdge short long hyphenPair pretends
-    bareDot labelRows jp latinPrefectures japanesePrefectures prefectures middle middlesIn editionWith begins leftmost tries grows hopeful
+unfolding within allOf anyOf indexOf elem same first alnum hyphen asciiSet kinds signs signsIn stretch kindAmong
+    kindBy anyKind kanjiWith kindWith ranges rangeIn halfKana isHalf replaceIn replace voiced repeats halfVoiced
+    eitherKana composed replacedFrom compose normalPlaced normalForm places period intoFirst labels jaChar labelChar
+    isEmpty unfit middleDot ordinary isJapanese beginsWithHyphen endsWithHyphen hyphenEdge short long hyphenPair
+    pretends bareDot labelRows jp latinPrefectures japanesePrefectures prefectures middle middlesIn editionWith begins
+    leftmost tries grows hopeful
 tried-hopeful = (refl, refl)

@@ -9,7 +9,8 @@ use lib.ListN.{replicate}
 use Rattle.lists.specs.Tests.{within, allOf, anyOf, indexOf, elem, same}
 use Rattle.lists.specs.Rows.{first, without}
 use Rattle.characters.specs.KanjiBits.{kanjiBits}
-use Rattle.characters.specs.Characters.{alnum, hyphen, asciiSet, kinds, signs, signsIn, stretch, kindAmong, kindBy, anyKind}
+use Rattle.characters.specs.Characters.{alnum, hyphen, asciiSet, kinds, signs, signsIn, stretch, kindAmong, kindBy}
+use Rattle.characters.specs.Characters.{anyKind}
 use Rattle.characters.specs.Characters.{kanjiWith, kindWith}
 use Rattle.characters.specs.Replace.{ranges, rangeIn, halfKana, isHalf, replaceIn, replace}
 use Rattle.characters.specs.Compose.{voiced, repeats, halfVoiced, eitherKana, composed}
@@ -143,10 +144,10 @@ table =
     []
 
 pub tried : map (said (todayWith kanjiBits)) table ≡ map meant table
-unfolding within allOf anyOf indexOf elem same first without alnum hyphen asciiSet kinds signs signsIn stretch kindAmong
-    kindBy anyKind kanjiWith kindWith ranges rangeIn halfKana isHalf replaceIn replace voiced repeats halfVoiced
-    eitherKana composed replacedFrom compose normalPlaced normalForm places period intoFirst labels jaChar labelChar
-    isEmpty unfit middleDot ordinary isJapanese beginsWithHyphen endsWithHyphen hyphenEdge short long hyphenPair
-    pretends bareDot labelRows jp nameRows frontRows textRows classOf verdict rules rulesBut latinPrefectures japanesePrefectures prefectures middle
-    middlesIn editionWith
+unfolding within allOf anyOf indexOf elem same first without alnum hyphen asciiSet kinds signs signsIn stretch
+    kindAmong kindBy anyKind kanjiWith kindWith ranges rangeIn halfKana isHalf replaceIn replace voiced repeats
+    halfVoiced eitherKana composed replacedFrom compose normalPlaced normalForm places period intoFirst labels jaChar
+    labelChar isEmpty unfit middleDot ordinary isJapanese beginsWithHyphen endsWithHyphen hyphenEdge short long
+    hyphenPair pretends bareDot labelRows jp nameRows frontRows textRows classOf verdict rules rulesBut
+    latinPrefectures japanesePrefectures prefectures middle middlesIn editionWith
 tried = refl

@@ -1,7 +1,6 @@
 -- `any_middle` meets its contract: the table of characters, cut where each label of the edition starts, is the list of its labels, by
 -- computation for none, 47 and 94.
 -- Assumes nothing.
-use mathlib.Core.Path.{refl}
 use native.Mathlib.Omega.{arith}
 use Rattle.rules.specs.Prefectures.{latinPrefectures, japanesePrefectures, prefectures}
 use Rattle.endings.specs.Parts.{parts, startsRise}

@@ -1,7 +1,7 @@
 -- `judge_into` meets its contract: with a number that is no edition 25 stands before all; else 2 to 4 come first, and the labels of the form have the
 -- rest.
 -- Assumes nothing.
-use mathlib.Core.Path.{sym, _∙_}
+use mathlib.Core.Path.{_∙_}
 use native.Mathlib.Omega.{arith}
 use borrow.Author.Tests.{not-true, not-false}
 use Rattle.fronts.proofs.Fronting.{told-refused, told-unfit, told-fit, told-some, told-fits}
