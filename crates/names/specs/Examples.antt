@@ -1,5 +1,5 @@
 -- A buffer that is too short is refused before what the rules refuse, here nothing and 257 blanks, by computation:
--- document 01, 'Numbers a call may answer'.
+-- document 01, 'Numbers a call may answer', and document 02, K12.
 use mathlib.Core.Path.{_≡_, refl}
 use mathlib.Core.List.{List, [], _∷_, _++_, map}
 use Prim.Native.Nat.{ℕ}
@@ -21,3 +21,9 @@ pub room-first : numbers (checkRows today) 255 256 ++ numbers (asciiRows today) 
     ≡ (1 ∷ 2 ∷ 1 ∷ 3 ∷ []) ++ (1 ∷ 2 ∷ 1 ∷ 3 ∷ [])
 unfolding checkRows asciiRows textRows frontRows first editionOf within
 room-first = refl
+
+-- and before 25, by a number that is no edition (document 02, K12)
+pub room-before-25 : numbers (checkRows (editionOf 0)) 255 256 ++ numbers (asciiRows (editionOf 0)) 191 192
+    ≡ (1 ∷ 25 ∷ 1 ∷ 25 ∷ []) ++ (1 ∷ 25 ∷ 1 ∷ 25 ∷ [])
+unfolding checkRows asciiRows textRows frontRows first editionOf within
+room-before-25 = refl
