@@ -52,7 +52,7 @@ fn each_number_comes_up_with_each_call_of_its_own() {
                 0 | 1 | 4 => 20,
                 2 | 3 => 1,
                 5..=12 | 17 => 8,
-                25 => 50,
+                25 => 40,
                 _ => 0,
             };
             assert!(times >= least && (times > 0) == (least > 0), "{call}: {number} comes up {times} times");

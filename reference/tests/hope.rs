@@ -13,7 +13,8 @@ use std::collections::BTreeSet;
 
 /// One code point of every kind that may be typed.
 const KINDS: &str = "aZ7-.\u{3042}\u{304B}\u{30CF}\u{4E9C}\u{3005}\u{3006}\u{30FC}\u{30FB}\u{309B}\u{309C}\
-    \u{3003}\u{FF41}\u{FF0D}\u{2212}\u{FF0E}\u{3002}\u{FF61}\u{FF76}\u{FF65}\u{FF70}\u{FF9E}\u{FF9F}\u{3099} ";
+    \u{FF41}\u{FF0D}\u{2212}\u{FF0E}\u{3002}\u{FF61}\u{FF76}\u{FF65}\u{FF70}\u{FF9E}\u{FF9F}\
+    \u{3003}\u{3099} ";
 
 /// The kinds that labels are made of.
 const LABEL_KINDS: &str = "a-\u{304B}\u{30FC}\u{30FB}\u{309B}\u{FF8A}\u{FF9F}";

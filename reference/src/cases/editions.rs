@@ -31,11 +31,12 @@ const OWN: [(char, usize); 4] = [('c', 256), ('a', 192), ('j', 0), ('l', 0)];
 
 /// Words that name no call: numbers that are not written as they should be, and an
 /// edition after a call that takes none.
-const MALFORMED: [&str; 36] = [
+const MALFORMED: [&str; 42] = [
     "C01 256", "C00 256", "C-1 256", "C+1 256", "C4294967296 256", "C18446744073709551617 256", "Cx 256",
     "C1x 256", "C1.0 256", "C0x1 256", "C1C 256", "CC 256", "c04 256", "A00000001 192", "a4294967297 192",
     "J1, 0", "j1_ 0", "L1- 0", "l9999999999 0", "M-0 0", "V03 0", "vv 0", "K1K 0", "N4 256", "N1 256",
-    "H1 255", "h4 255", "S1 0", "s4 0", "B2 0", "G4 0", "g1 0", "X4 63", "E1 63", "D1 63", "P3 1",
+    "H1 255", "h4 255", "S1 0", "s4 0", "B2 0", "G4 0", "g1 0", "X4 63", "E1 63", "D1 63", "P3 1", "T4 1",
+    "U1 63", "F0 0", "W4 256", "Q04 0", "R-1 256",
 ];
 
 pub fn add(file: &mut CaseFile) {
@@ -206,11 +207,11 @@ fn early_labels() -> Vec<String> {
         beside.flat_map(|other| [format!("\u{3003}{other}"), format!("{other}\u{3003}")]).collect();
     labels.extend(in_each_place("abcd"));
     labels.extend(in_each_place("\u{3042}\u{30FB}"));
-    let fixed = "\u{3003} \u{3003}\u{3003} \u{30FB}\u{3003}\u{30FB} a\u{30FB}\u{3003} \u{30FB}\u{30FC}\u{3003}\u{3006} \
-        \u{FF65}-\u{3003} -\u{3003}- \u{2212}\u{3003} \u{3003}\u{FF0D} a-\u{3003} ab--\u{3003} \u{3003}b--c a\u{3003}--b \
-        xn--\u{3003} \u{3003}\u{309B} \u{3003}\u{309C} \u{3003}\u{FF9E} \u{3003}\u{FF9F} \u{3003}\u{3099} \
-        \u{30CF}\u{3003}\u{309B} \u{30CF}\u{309B}\u{3003} \u{FF76}\u{FF9E}\u{3003}\u{FF77}\u{FF9E} \u{3003}_ _\u{3003} \
-        \u{3042}\u{30A2}\u{4E9C}\u{3003}";
+    let fixed = "\u{3003} \u{3003}\u{3003} \u{30FB}\u{3003}\u{30FB} a\u{30FB}\u{3003} \
+        \u{30FB}\u{30FC}\u{3003}\u{3006} \u{FF65}-\u{3003} -\u{3003}- \u{2212}\u{3003} \u{3003}\u{FF0D} \
+        a-\u{3003} ab--\u{3003} \u{3003}b--c a\u{3003}--b xn--\u{3003} \u{3003}\u{309B} \u{3003}\u{309C} \
+        \u{3003}\u{FF9E} \u{3003}\u{FF9F} \u{3003}\u{3099} \u{30CF}\u{3003}\u{309B} \u{30CF}\u{309B}\u{3003} \
+        \u{FF76}\u{FF9E}\u{3003}\u{FF77}\u{FF9E} \u{3003}_ _\u{3003} \u{3042}\u{30A2}\u{4E9C}\u{3003}";
     labels.extend(fixed.split(' ').map(String::from));
     for times in [13, 14, 15] {
         labels.extend(
