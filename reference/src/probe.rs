@@ -17,7 +17,7 @@ pub const LONGEST_LINE: usize = 4000;
 const LONGEST_BUFFER: usize = 300;
 
 /// The calls that take an edition.
-const WITH_EDITION: &str = "CcAaJjLlMVvKQR";
+const WITH_EDITION: &str = "CcAaJjLlMVvKQRI";
 
 /// The answer to one line, given without its LF.
 pub fn answer(line: &[u8]) -> String {
@@ -69,6 +69,7 @@ fn on_numbers(call: &str, edition: u32, lent: usize, numbers: &[u32]) -> Option<
         "V" | "v" | "G" | "g" => live_host(edition, numbers),
         "M" => hopes(edition, numbers),
         "P" => words((0..=lent).map(|entry| normal::place_of(numbers, entry))),
+        "I" => flag(Edition::numbered(edition).is_some()).to_string(),
         "K" => characters(edition, numbers),
         "T" => lists(lent, numbers),
         "Q" => label(edition, lent, numbers)?,

@@ -17,7 +17,7 @@ use std::collections::BTreeSet;
 const EARLY_SIGN: u32 = 0x3003;
 
 /// The calls that take an edition, and those of them that judge a name.
-const WITH_EDITION: &str = "CcAaJjLlMVvKQR";
+const WITH_EDITION: &str = "CcAaJjLlMVvKQRI";
 const JUDGING: &str = "CcAaJjLl";
 
 /// What each edition says of a text.
@@ -477,7 +477,7 @@ fn cases_with_today_or_no_edition_are_answered_as_without() {
             assert_eq!(answer, plain, "{line}");
         } else if edition > 4 || edition == 0 {
             let refused =
-                if "Mm".contains(call) { !answer.contains('1') } else { answer.starts_with("25 0 - - ") };
+                if "MI".contains(call) { !answer.contains('1') } else { answer.starts_with("25 0 - - ") };
             assert!(refused || answer == "1 0 - - 0", "{line}");
         }
         seen.insert((call.to_string(), edition.min(6)));

@@ -60,6 +60,15 @@ pub fn add(file: &mut CaseFile) {
     characters_and_texts(file);
     random(file);
     malformed(file);
+    which_there_are(file);
+}
+
+/// Which numbers have an edition.
+fn which_there_are(file: &mut CaseFile) {
+    for edition in NEAR.chain(STRANGERS) {
+        file.add_in::<u32>('I', edition, 0, &[]);
+    }
+    file.add('I', 0, &[0x3003]);
 }
 
 fn taken(edition: u32, name: &str) -> (u32, Tried) {
