@@ -6,15 +6,19 @@ use mathlib.Core.Bool.{true, false}
 use mathlib.Core.List.{List, _++_}
 use mathlib.Core.Logic.{_↔_}
 use Prim.Native.Nat.{ℕ}
-use Rattle.lists.specs.Tests.{within}
+use lib.Dec.{ltb}
+use lib.ListN.{take}
+use Rattle.lists.specs.Tests.{pick, within}
+use Rattle.lists.proofs.Laws.{by-test}
 use Rattle.rules.specs.Permits.{Permits, ShortMiddles}
 use Rattle.rules.specs.Editions.{isEdition, editionOf, today}
 use Rattle.rules.specs.Hopeful.{MayBecome, hopeful, HopeLaws}
 use Rattle.rules.proofs.Hopeless.{past-hope}
 use Rattle.rules.proofs.Hopeful.{hopeful-exactly, accepted-hopeful, hopeless-stays}
-use Rattle.rules.proofs.Editions.{edition-short, edition-hope-laws}
+use Rattle.rules.proofs.Editions.{edition-hope-laws}
 use Rattle.rules.proofs.InForce.{unknown-hopeless}
 use Rattle.live.specs.Live.{fresh, typed, lookedBy, looked, hoped}
+use Rattle.live.specs.declared.Live.{Live}
 use Rattle.live.proofs.Typing.{edition-kept, live-is}
 use Rattle.live.proofs.Nightly.{same-number}
 
@@ -41,12 +45,15 @@ module _ (E : ℕ → Permits) (e : ℕ) where
     pub hope-gone : (cs ds : List ℕ) → hoped E (typed (fresh e) cs) ≡ false → hoped E (typed (fresh e) (cs ++ ds)) ≡ false
     hope-gone cs ds q = hope-here (cs ++ ds) ∙ hopeless-stays (E e) H cs ds (sym (hope-here cs) ∙ q)
 
--- within each edition, and by a number that is none; at the edition in force
+-- by a number that is no edition there is none, in any state
+pub no-hope : (l : Live) → isEdition (l .edition) ≡ false → hoped editionOf l ≡ false
+unfolding hoped lookedBy
+no-hope l unknown = by-test (λ b. pick b false (hopeful (editionOf (l .edition)) (take (l .count) (l .text))) ≡ false) (ltb 256 (l .count))
+    (λ q. refl) (λ q. unknown-hopeless (l .edition) unknown _)
+
+-- within each edition; at the edition in force
 pub hope-edition : (e : ℕ) → isEdition e ≡ true → (cs : List ℕ) → (hoped editionOf (typed (fresh e) cs) ≡ true) ↔ MayBecome (editionOf e) cs
 hope-edition e there-is = hope-exactly editionOf e (edition-hope-laws e there-is)
-
-pub no-hope : (e : ℕ) → isEdition e ≡ false → (cs : List ℕ) → hoped editionOf (typed (fresh e) cs) ≡ false
-no-hope e unknown cs = hope-is editionOf e (edition-short e) cs ∙ unknown-hopeless e unknown cs
 
 pub hope-today : (cs : List ℕ) → (hoped editionOf (typed (fresh 4) cs) ≡ true) ↔ MayBecome today cs
 unfolding within

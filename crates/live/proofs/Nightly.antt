@@ -2,11 +2,12 @@
 -- (Typing), at the rules of a name by the edition that the state was given and keeps. So it shows what the nightly calls answer to that text, since with room these say what the rules say.
 -- Assumes nothing.
 use mathlib.Core.Path.{_≡_, refl, sym, ap, _∙_}
-use mathlib.Core.Bool.{false}
+use mathlib.Core.Bool.{Bool, true, false}
 use mathlib.Core.List.{List}
 use Prim.Native.Nat.{ℕ, _≤_, _<_}
 use native.Mathlib.Omega.{arith}
-use lib.ListN.{length}
+use lib.Dec.{ltb}
+use lib.ListN.{length, take, replicate}
 use borrow.Author.Tests.{lt-ltb, le-ltb}
 use Rattle.lists.specs.Tests.{pick}
 use Rattle.lists.proofs.Laws.{by-test}
@@ -28,7 +29,8 @@ use Rattle.names.specs.declared.Judged.{Judged}
 use Rattle.names.proofs.Demands.{check-says, ascii-says}
 use Rattle.names.proofs.Minus.{minus-judged}
 use Rattle.names.proofs.Placing.{check-places, judge-cuts}
-use Rattle.live.specs.Live.{fresh, typed, lookedBy, noText, tooLong, looked, Agrees}
+use Rattle.live.specs.Live.{fresh, given, typed, lookedBy, noText, tooLong, looked, Refused, Agrees}
+use Rattle.live.specs.declared.Live.{Live}
 use Rattle.live.proofs.Typing.{edition-kept, live-is}
 
 module _ (P : Permits) where
@@ -73,16 +75,43 @@ module _ (E : ℕ → Permits) (e : ℕ) where
     pub shown-past : 256 < length cs → looked E (typed (fresh e) cs) ≡ tooLong (E e .known)
     shown-past h = live-is-nightly cs ∙ past (E e) cs h
 
--- by a number that is no edition it shows 25 at place 0 after any code points, in place of 2 and 3 too, with the text as otherwise
-module _ (e : ℕ) (unknown : isEdition e ≡ false) (cs : List ℕ) where
-  pub shows-25 : (looked editionOf (typed (fresh e) cs) .number ≡ 25) × (looked editionOf (typed (fresh e) cs) .place ≡ 0)
-  shows-25 =
-      let said = unknown-25 e unknown cs in
-      (same-number editionOf e cs ∙ ap (λ (v : Verdict). v .number) said, same-place editionOf e cs ∙ ap (λ (v : Verdict). v .place) said)
+-- ---- any state, made by steps or not
 
-  pub form-25 : looked editionOf (typed (fresh e) cs) .form ≡ padded (shown cs)
-  unfolding judged
-  form-25 = ap (λ (j : Judged). j .form) (live-is-nightly editionOf e cs)
+-- by a number that is no edition it shows 25 at place 0, no class and no label, in place of 2 and 3 too
+module _ (l : Live) (unknown : isEdition (l .edition) ≡ false) where
+  says-25 : (t : List ℕ) → Refused 25 0 (judged (editionOf (l .edition)) t)
+  unfolding judged placesSaid
+  says-25 t = let e = unknown-25 (l .edition) unknown t in record { number = rw e; place = rw e; class = rw e; labels = rw e }
+
+  past-25 : Refused 25 0 (tooLong (isEdition (l .edition)))
+  unfolding tooLong noText
+  past-25 = rw unknown (record { number = refl; place = refl; class = refl; labels = refl })
+
+  pub shows-25 : Refused 25 0 (looked editionOf l)
+  unfolding looked lookedBy editionOf
+  shows-25 = by-test (λ b. Refused 25 0 (pick b (tooLong (isEdition (l .edition))) (judged (editionOf (l .edition)) (take (l .count) (l .text))))) (ltb 256 (l .count))
+      (λ q. past-25) (λ q. says-25 _)
+
+-- the text that is shown does not depend on the edition
+past-text : (j k : Bool) → (tooLong j .form ≡ tooLong k .form) × (tooLong j .length ≡ tooLong k .length)
+unfolding tooLong noText
+past-text j k = (text j .0 ∙ sym (text k .0), text j .1 ∙ sym (text k .1))
+  where
+    text : (b : Bool) → (pick b (noText 3 256) (noText 25 0) .form ≡ replicate 256 0) × (pick b (noText 3 256) (noText 25 0) .length ≡ 0)
+    text true = (refl, refl)
+    text false = (refl, refl)
+
+pub same-text : (E : ℕ → Permits) (l : Live) (e : ℕ)
+    → (looked E l .form ≡ looked E (given e l) .form) × (looked E l .length ≡ looked E (given e l) .length)
+unfolding looked lookedBy judged
+same-text E l e = go (ltb 256 (l .count))
+  where
+    shows : (b : Bool) (k : ℕ) → Judged
+    shows b k = pick b (tooLong (E k .known)) (judged (E k) (take (l .count) (l .text)))
+
+    go : (b : Bool) → (shows b (l .edition) .form ≡ shows b e .form) × (shows b (l .edition) .length ≡ shows b e .length)
+    go true = past-text _ _
+    go false = (refl, refl)
 
 -- ---- the look and the nightly calls
 

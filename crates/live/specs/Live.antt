@@ -20,6 +20,10 @@ use Rattle.live.specs.declared.Live.{Live}
 unfoldable pub fresh : ℕ → Live
 fresh edition = record { edition = edition; text = replicate 256 0; count = 0 }
 
+-- a state with another edition
+abbrev pub given : ℕ → Live → Live
+given edition l = record { edition = edition; text = l .text; count = l .count }
+
 -- one code point more; 257 stands for more than 256, however many; the edition is kept
 unfoldable pub stepped : Live → ℕ → Live
 stepped l c =
@@ -48,6 +52,13 @@ tooLong known = pick known (noText 3 256) (noText 25 0)
 -- by the edition of the state, out of all editions
 unfoldable pub looked : (ℕ → Permits) → Live → Judged
 looked editions l = let P = editions (l .edition) in lookedBy (judged P) (tooLong (P .known)) l
+
+-- a look shows a refusal: its number and place, no class and no label
+pub record Refused (n p : ℕ) (j : Judged) : Type 0 where
+  pub number : j .number ≡ n
+  pub place : j .place ≡ p
+  pub class : j .class ≡ None
+  pub labels : j .labels ≡ noPlaces
 
 -- a look, and what a nightly call says: the same number, place and class
 pub record Agrees (j : Judged) (v : Verdict) : Type 0 where

@@ -1,8 +1,9 @@
 -- The editions of the rules, by their numbers: document 02, K12. Each is one value of what an edition permits.
 -- 1 is that of 10 July 2003, 2 of 30 August 2005, 3 of 16 July 2012, 4 of 3 November 2014, which is in force (document
 -- 01). What the four say of 3003 stands in `characters` (specs/Characters: signsIn).
-use mathlib.Core.Bool.{Bool, not}
+use mathlib.Core.Bool.{Bool, true, false, not}
 use mathlib.Core.List.{List, []}
+use mathlib.Core.Path.{_≡_, refl}
 use Prim.Native.Nat.{ℕ}
 use lib.Dec.{eqb}
 use Rattle.lists.specs.Tests.{pick, within}
@@ -42,3 +43,11 @@ today = editionOf 4
 
 abbrev pub todayWith : List ℕ → Permits
 todayWith table = editionWith table 4
+
+-- the four values, written out
+pub four : (editionOf 1 ≡ record { known = true; kind = kind 1; middles = []; three = false })
+    × (editionOf 2 ≡ record { known = true; kind = kind 2; middles = []; three = false })
+    × (editionOf 3 ≡ record { known = true; kind = kind 3; middles = latinPrefectures; three = true })
+    × (editionOf 4 ≡ record { known = true; kind = kind 4; middles = prefectures; three = true })
+unfolding within middlesIn editionOf
+four = (refl, refl, refl, refl)
