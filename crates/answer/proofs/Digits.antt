@@ -45,7 +45,7 @@ all-near : (rows : List Row) → allOf (λ (r : Row). leb (r .place) 256) rows �
 all-near rows w = leb-true _ 256 (of-rows (λ (a : Answer). leb (a .place) 256) refl rows w)
 
 module _ (P : Permits) where
-  front-near : (text : List ℕ) → Near (first (frontRows P text))
+  pub front-near : (text : List ℕ) → first (frontRows P text) .place ≤ 256
   unfolding frontRows allOf
   front-near text = ⊎-elim (λ g. rw (front-3 P text (λ e. omega arith) g) (omega arith)) small (lt-or-le 256 (length text))
     where
@@ -63,13 +63,17 @@ module _ (P : Permits) where
       go true e = all-near (nameRows P ls) (rw (le-leb (indexOf isEmpty ls) 256 (few e)))
       go false e = omega (arith, ap (λ (v : Verdict). v .place) (name-5 P ls e))
 
+  pub text-near : (text : List ℕ) → first (textRows P text) .place ≤ 256
+  unfolding textRows allOf
+  text-near text =
+      of-two Near (row 25 (not (P .known)) 0 ∷ []) _ (all-near (row 25 (not (P .known)) 0 ∷ []) refl)
+      (of-two Near (frontRows P text) _ (front-near text) (name-near (labels (normalForm text))))
+
 pub place-bound : (P : Permits) (text : List ℕ) (room : ℕ) → first (asciiRows P text room) .place ≤ 256
-unfolding asciiRows textRows allOf
+unfolding asciiRows allOf
 place-bound P text room =
-    let ls = labels (normalForm text) in
-    of-two Near (row 1 (ltb room 192) 0 ∷ row 25 (not (P .known)) 0 ∷ []) _ (all-near (row 1 (ltb room 192) 0 ∷ row 25 (not (P .known)) 0 ∷ []) refl)
-    (of-two Near (frontRows P text ++ nameRows P ls) _ (of-two Near (frontRows P text) (nameRows P ls) (front-near P text) (name-near P ls))
-    (all-near (row 14 (anyOf (uncoded P) ls) 0 ∷ []) refl))
+    of-two Near (row 1 (ltb room 192) 0 ∷ []) _ (all-near (row 1 (ltb room 192) 0 ∷ []) refl)
+    (of-two Near (textRows P text) _ (text-near P text) (all-near (row 14 (anyOf (uncoded P) (labels (normalForm text))) 0 ∷ []) refl))
 
 -- 25 is the largest, and by an edition that there is 17; a bad line has 16
 pub number-bound : (P : Permits) (text : List ℕ) (room : ℕ) → first (asciiRows P text room) .number ≤ 25

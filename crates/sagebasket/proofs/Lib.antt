@@ -1,0 +1,7 @@
+mod Small
+mod Alike
+mod Held
+mod Reading
+mod Hopeless
+pub mod Nightly
+pub mod Unique
