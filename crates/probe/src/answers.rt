@@ -8,6 +8,7 @@ use crate::label;
 use crate::lent;
 use crate::line_calls;
 use crate::named;
+use crate::outside;
 use crate::printed;
 use crate::slices;
 use crate::streams;
@@ -67,6 +68,7 @@ fn narrowed(numbers: &[u32], octets: &mut [u8]) -> bool
 // A call on octets.
 fn on_octets(
     kanji: &[u32],
+    edition: u32,
     call: u8,
     numbers: &[u32],
     room: usize,
@@ -87,6 +89,7 @@ fn on_octets(
         b'F' => line_calls::fields(octets, room, out, o),
         b'U' => line_calls::decode_utf8(octets, room, out, o),
         b'W' => line_calls::answer(kanji, octets, room, out, o),
+        b'Y' => outside::on_octets(edition, room, octets, out, o),
         _ => {
             let mut reply = [0u8; 300];
             streams::whole_batch(kanji, octets, &mut reply, out, o)
@@ -146,7 +149,7 @@ fn takes_edition(call: u8) -> bool {
     match call {
         b'A' | b'C' | b'J' | b'L' | b'V' => true,
         b'a' | b'c' | b'j' | b'l' | b'v' => true,
-        b'I' | b'K' | b'M' | b'Q' | b'R' => true,
+        b'I' | b'K' | b'M' | b'O' | b'Q' | b'R' | b'Y' => true,
         _ => false,
     }
 }
@@ -169,12 +172,14 @@ fn call(
         b'a' | b'c' | b'j' | b'l' | b's' => on_name(kanji, edition, call, numbers, room, out, o),
         b'G' | b'H' | b'V' => on_host(kanji, edition, call, numbers, room, out, o),
         b'g' | b'h' | b'v' => on_host(kanji, edition, call, numbers, room, out, o),
-        b'B' | b'D' | b'F' | b'U' | b'W' => on_octets(kanji, call, numbers, room, out, o),
+        b'B' | b'D' | b'F' | b'U' | b'W' => on_octets(kanji, edition, call, numbers, room, out, o),
+        b'Y' => on_octets(kanji, edition, call, numbers, room, out, o),
         b'E' => encode(numbers, room, out, o),
         b'I' => printed::put_flag(out, o, names::is_edition(edition)),
         b'K' => kinds::kinds(kanji, edition, numbers, out, o),
         b'M' => streams::hope(kanji, edition, numbers, out, o),
         b'N' => normal_form(numbers, room, out, o),
+        b'O' => outside::on_points(edition, room, numbers, out, o),
         b'P' => slices::places(numbers, room, out, o),
         b'Q' => label::one_label(kanji, edition, numbers, room, out, o),
         b'R' => hosted::front(kanji, edition, numbers, room, out, o),

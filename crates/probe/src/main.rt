@@ -10,6 +10,7 @@ mod label;
 mod lent;
 mod line_calls;
 mod named;
+mod outside;
 mod printed;
 mod slices;
 mod streams;
