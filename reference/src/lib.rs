@@ -16,6 +16,7 @@ pub mod host;
 pub mod live;
 pub mod name;
 pub mod normal;
+pub mod outside;
 pub mod probe;
 pub mod random;
 pub mod sweep;

@@ -11,13 +11,14 @@ use crate::hope;
 use crate::live::{Live, Shown};
 use crate::name::{self, Family};
 use crate::normal;
+use crate::outside::{self, Numbers};
 use std::fmt::LowerHex;
 
 pub const LONGEST_LINE: usize = 4000;
 const LONGEST_BUFFER: usize = 300;
 
 /// The calls that take an edition.
-const WITH_EDITION: &str = "CcAaJjLlMVvKQRI";
+const WITH_EDITION: &str = "CcAaJjLlMVvKQRIOY";
 
 /// The answer to one line, given without its LF.
 pub fn answer(line: &[u8]) -> String {
@@ -33,10 +34,10 @@ fn read_and_answer(line: &[u8]) -> Option<String> {
     let lent = fields.next().and_then(decimal)?;
     let numbers: Vec<u32> = fields.map(hexadecimal).collect::<Option<_>>()?;
     match call {
-        "B" | "D" | "F" | "U" | "W" => {
+        "B" | "D" | "F" | "U" | "W" | "Y" => {
             let narrow = |number: &u32| u8::try_from(*number).ok();
             let octets: Vec<u8> = numbers.iter().map(narrow).collect::<Option<_>>()?;
-            Some(on_octets(call, lent, &octets))
+            on_octets(call, edition, lent, &octets)
         }
         _ => on_numbers(call, edition, lent, &numbers),
     }
@@ -73,18 +74,20 @@ fn on_numbers(call: &str, edition: u32, lent: usize, numbers: &[u32]) -> Option<
         "K" => characters(edition, numbers),
         "T" => lists(lent, numbers),
         "Q" => label(edition, lent, numbers)?,
+        "O" => outside_points(edition, lent, numbers)?,
         _ => return None,
     })
 }
 
-fn on_octets(call: &str, lent: usize, octets: &[u8]) -> String {
-    match call {
+fn on_octets(call: &str, edition: u32, lent: usize, octets: &[u8]) -> Option<String> {
+    Some(match call {
         "D" => in_points(lent, |buffer| plain(&calls::decode_label(octets, buffer))),
         "U" => in_points(lent, |buffer| counted(calls::decode_utf8(octets, buffer))),
         "W" => in_octets(lent, |buffer| counted(calls::answer_line(octets, buffer))),
         "F" => fields(lent, octets),
+        "Y" => outside_octets(edition, lent, octets)?,
         _ => hex_list(&batch::desk(octets)),
-    }
+    })
 }
 
 fn decimal(field: &str) -> Option<usize> {
@@ -156,6 +159,48 @@ fn run<T: Copy + PartialEq + LowerHex>(before: Vec<T>, call: impl FnOnce(&mut [T
     out
 }
 
+/// What a call of the outside returns, the number, and its twelve numbers.
+fn told(numbers: Numbers) -> String {
+    format!("{:x} {}", numbers[0], hex_list(&numbers))
+}
+
+/// A call of the outside on code points; LEN says which.
+fn outside_points(edition: u32, which: usize, text: &[u32]) -> Option<String> {
+    let live = || outside::typed(edition, text);
+    let looked = |shown: Shown| with_text(told(outside::looked(&shown)), &shown.text);
+    Some(match which {
+        0 => in_points(256, |form| told(outside::check(edition, text, form))),
+        1 | 8 => in_octets(192, |ascii| told(outside::to_ascii(edition, text, ascii))),
+        2 => flag(outside::may_become(edition, text)).to_string(),
+        3 | 9 => in_octets(255, |ascii| told(outside::host_to_ascii(text, ascii))),
+        4 => in_octets(63, |ascii| told(outside::encode(text, ascii))),
+        5 => looked(live().look()),
+        6 => looked(live().look_at_host()),
+        7 => flag(live().may_become()).to_string(),
+        10 => with_text("258".to_string(), &outside::state(edition, text)),
+        11 => flag(Edition::numbered(edition).is_some()).to_string(),
+        _ => return None,
+    })
+}
+
+/// A call of the outside on octets; LEN says which.
+fn outside_octets(edition: u32, which: usize, octets: &[u8]) -> Option<String> {
+    Some(match which {
+        0 => {
+            in_points(256, |form| told(outside::of_utf8(octets, |text| outside::check(edition, text, form))))
+        }
+        1 => in_octets(192, |ascii| {
+            told(outside::of_utf8(octets, |text| outside::to_ascii(edition, text, ascii)))
+        }),
+        2 => {
+            in_octets(255, |ascii| told(outside::of_utf8(octets, |text| outside::host_to_ascii(text, ascii))))
+        }
+        3 => in_points(63, |label| told(outside::decode(octets, label))),
+        4 => in_octets(256, |reply| format!("{:x}", calls::answer_line(octets, reply).unwrap_or(0))),
+        _ => return None,
+    })
+}
+
 /// The state of the live check after these code points.
 fn stepped(edition: u32, numbers: &[u32]) -> Live {
     let mut state = Live::fresh(edition);
@@ -167,9 +212,9 @@ fn stepped(edition: u32, numbers: &[u32]) -> Live {
 
 /// The beginning of an answer and the shown entries up to the last that is not
 /// zero.
-fn with_text(head: String, shown: &Shown) -> String {
-    match shown.text.iter().rposition(|code| *code != 0) {
-        Some(last) => format!("{head} {}", hex_list(&shown.text[..=last])),
+fn with_text(head: String, entries: &[u32]) -> String {
+    match entries.iter().rposition(|entry| *entry != 0) {
+        Some(last) => format!("{head} {}", hex_list(&entries[..=last])),
         None => head,
     }
 }
@@ -179,13 +224,13 @@ fn with_text(head: String, shown: &Shown) -> String {
 fn live(edition: u32, numbers: &[u32]) -> String {
     let shown = stepped(edition, numbers).look();
     let (class, labels) = (Class::letter(shown.class), shown.labels.word());
-    with_text(format!("{} {} {class} {labels} {}", shown.number, shown.place, shown.length), &shown)
+    with_text(format!("{} {} {class} {labels} {}", shown.number, shown.place, shown.length), &shown.text)
 }
 
 /// The same of a host, which has no class and no places of labels.
 fn live_host(edition: u32, numbers: &[u32]) -> String {
     let shown = stepped(edition, numbers).look_at_host();
-    with_text(format!("{} {} {}", shown.number, shown.place, shown.length), &shown)
+    with_text(format!("{} {} {}", shown.number, shown.place, shown.length), &shown.text)
 }
 
 /// The normal form's answer; then whether it holds an unfit character, and the

@@ -192,10 +192,11 @@ fn live_host(edition: u32, text: &[u32], out: &mut [u8], o: usize) -> usize {
     put_host(out, p, &ascii)
 }
 
-// The numbers of the state itself.
+// How many numbers the state has, and these.
 fn state(edition: u32, text: &[u32], out: &mut [u8], from: usize) -> usize {
     let state = typed(edition, text);
-    put_state(out, from, &state)
+    let o = printed::put_decimal(out, from, 258);
+    put_state(out, o, &state)
 }
 
 fn hope(edition: u32, text: &[u32], out: &mut [u8], o: usize) -> usize {

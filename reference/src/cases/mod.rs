@@ -15,6 +15,7 @@ pub mod lines;
 pub mod lists;
 pub mod names;
 pub mod octets;
+pub mod outside;
 pub mod own;
 pub mod pairs;
 pub mod places;
@@ -160,5 +161,6 @@ pub fn all_lines() -> Vec<String> {
     scripts::add(&mut file);
     places::add(&mut file);
     editions::add(&mut file);
+    outside::add(&mut file);
     file.into_lines()
 }
