@@ -1,7 +1,7 @@
 // The live check: a state that is given an edition, takes one code point at a time and shows, after each, what the nightly rules of that
 // edition say of the text so far.
 // Beside it stands whether that text may yet become a name. It keeps the text and no second set of rules: each call hands the text to
-// `names`, or to `hosts` (src/host_looks). Its meaning is defined in specs/Live; that what it shows is what the nightly rules say is
+// `names`, to `hopes`, or to `hosts` (src/host_looks). Its meaning is defined in specs/Live; that what it shows is what the nightly rules say is
 // proofs/Nightly, and that it says no exactly where no continuation is accepted, proofs/Hope.
 pub mod host_looks;
 
@@ -100,7 +100,7 @@ impl Live {
             return false;
         }
         let buffer: &[u32] = &self.text;
-        names::may_become_with(kanji, edition, &buffer[0..n])
+        hopes::may_become_with(kanji, edition, &buffer[0..n])
     }
 
     pub fn may_become(self) -> bool

@@ -1,5 +1,4 @@
 pub mod Cutting
-pub mod OfName
 pub mod Answering
 pub mod Judging
 pub mod Joining
@@ -11,4 +10,3 @@ pub mod Demands
 pub mod Placing
 pub mod OneForm
 pub mod Minus
-pub mod Hoping

@@ -50,7 +50,7 @@ use Rattle.names.specs.declared.whole.Put.{Put}
 use Rattle.names.proofs.Answering.{ascii-refused, ascii-uncoded, ascii-accepted}
 use Rattle.names.proofs.Enough.{accepted-writable}
 use Rattle.names.proofs.Joining.{put-jp}
-use Rattle.names.proofs.OfName.{two-filled}
+use Rattle.labelled.proofs.OfName.{two-filled}
 
 -- ---- what a label may hold
 

@@ -1,11 +1,11 @@
 -- What the functions below the calls answer: the rules of a text with its normal form, the labels of a form, the parts
 -- of an ASCII form, the usual name.
 use mathlib.Core.Bool.{Bool, true, false, _&&_}
-use mathlib.Core.List.{List, [], _∷_}
+use mathlib.Core.List.{List, _∷_}
 use mathlib.Core.Logic.{_⊎_}
 use mathlib.Core.Path.{_≡_}
-use Prim.Native.Nat.{ℕ, _+_, _-_, _*_, _≤_, _<_}
-use lib.ListN.{length, take, drop}
+use Prim.Native.Nat.{ℕ, _-_, _*_, _≤_}
+use lib.ListN.{length, drop}
 use Rattle.lists.specs.Tests.{within, allOf, same}
 use Rattle.lists.specs.Front.{written, Puts}
 use Rattle.rules.specs.Labels.{labels}
@@ -21,7 +21,6 @@ use Rattle.names.specs.declared.AsciiForm.{AsciiForm}
 use Rattle.names.specs.declared.Checked.{Checked}
 use Rattle.names.specs.declared.whole.Put.{Put}
 use Rattle.names.specs.declared.judges.Ruled.{Ruled}
-use Rattle.names.specs.declared.places.Ends.{Ends}
 
 -- what the rules say of a text, with the length of its normal form, which stands at the buffer's start
 pub record Judges (P : Permits) (text before after : List ℕ) (r : Ruled) : Type 0 where
@@ -38,26 +37,6 @@ abbrev pub refusedCheck : ℕ → ℕ → Checked
 refusedCheck n p = record { number = n; place = p; class = None; labels = noPlaces; length = 0 }
 
 -- ---- the labels of a form
-
--- the labels that end at the period at a and at the form's end
-abbrev pub twoAt : List ℕ → ℕ → List (List ℕ)
-twoAt form a = take (a - 0) (drop 0 form) ∷ take (length form - (a + 1)) (drop (a + 1) form) ∷ []
-
--- at the periods at a and at b and at the form's end
-abbrev pub threeAt : List ℕ → ℕ → ℕ → List (List ℕ)
-threeAt form a b =
-    take (a - 0) (drop 0 form) ∷
-    take (b - (a + 1)) (drop (a + 1) form) ∷
-    take (length form - (b + 1)) (drop (b + 1) form) ∷
-    []
-
--- how many labels there are, where they are up to three, and where these end
-pub record EndsAt (form : List ℕ) (r : Ends) : Type 0 where
-  pub few : length (labels form) ≤ 3 → r .count ≡ length (labels form)
-  pub one : r .count ≡ 1 → labels form ≡ form ∷ []
-  pub two : r .count ≡ 2 → (r .first < length form) × (labels form ≡ twoAt form (r .first))
-  pub three : r .count ≡ 3
-      → (r .first < r .second) × (r .second < length form) × (labels form ≡ threeAt form (r .first) (r .second))
 
 abbrev pub TwoOrThree : List ℕ → Type 0
 TwoOrThree form = (length (labels form) ≡ 2) ⊎ (length (labels form) ≡ 3)

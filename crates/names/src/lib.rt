@@ -1,9 +1,8 @@
-// The calls on a name: judge, check, whether it may yet become one, whole ASCII form, and is there such an edition. Each takes the number of an edition, any number, any
+// The calls on a name: judge, check, whole ASCII form, and is there such an edition. Each takes the number of an edition, any number, any
 // text and any lent buffer, says by itself whether they are fit, and writes nothing where it refuses. Its meaning is defined in `rules` (specs/Rules,
-// Editions, Kinds, Places, Hopeful) and here in specs/Calls. A call `.._with` is lent the table of kanji, so that a program names that table once; the call without names it itself.
+// Editions, Kinds, Places) and here in specs/Calls. A call `.._with` is lent the table of kanji, so that a program names that table once; the call without names it itself.
 mod checks;
 mod editions;
-mod hopes;
 mod judges;
 mod places;
 mod usual;
@@ -12,37 +11,22 @@ mod whole;
 pub use checks::check;
 pub use checks::check_with;
 pub use editions::is_edition;
-pub use hopes::may_become;
-pub use hopes::may_become_with;
 pub use judges::judge;
 pub use judges::judge_with;
 pub use whole::to_ascii;
 pub use whole::to_ascii_with;
 
-// The numbers that a call on a name answers (document 01; 25 document 02, K12), besides 2 and 3, which are the normal form's, and 7 to 10 and 17, a label's.
+// The numbers that a call on a name answers (document 01; 25 document 02, K12), besides 2 and 3, which are the normal form's, 7 to 10 and 17, a
+// label's, and 5, 6, 11 and 12, which `labelled` has.
 pub const ACCEPTED: u8 = 0;
 
 pub const NO_ROOM: u8 = 1;
 
 pub const UNFIT: u8 = 4;
 
-pub const LABEL_COUNT: u8 = 5;
-
-pub const EMPTY_LABEL: u8 = 6;
-
-pub const NOT_JP: u8 = 11;
-
-pub const NOT_PREFECTURE: u8 = 12;
-
 pub const OVER_63: u8 = 14;
 
 pub const NO_EDITION: u8 = 25;
-
-// What a name asks of its leftmost label: an ASCII one has so many characters at least, and hyphens in the third and fourth places are
-// refused in an ASCII one, not in every one.
-pub(crate) const LEAST: usize = 3;
-
-pub(crate) const EVERY_PAIR: bool = false;
 
 // What the judge answers; the label places are those of the normal form with 0, and none otherwise.
 pub struct Judged {

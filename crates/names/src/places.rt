@@ -1,53 +1,11 @@
-// The labels of a normal form: how many there are, and where each stands. Judge and hope cut a form by it; check and judge tell it.
+// Where the labels of a normal form stand. Check and judge tell it.
 use crate::ACCEPTED;
-use labels::label_end;
+use labelled::label_ends;
 use rules::LabelPlaces;
 ghost use mathlib.Core.Path.{_≡_};
 ghost use Rattle.rules.specs.Labels.{labels};
 ghost use Rattle.rules.specs.Places.{labelPlaces, noPlaces, placesSaid};
-ghost use Rattle.names.specs.Steps.{EndsAt, TwoOrThree};
-
-// How many labels a form has, 4 for more than three; and where the first and the second of them end. With one label the second end says
-// nothing.
-pub(crate) struct Ends {
-    pub count: usize,
-    pub first: usize,
-    pub second: usize,
-}
-
-pub(crate) fn label_ends(form: &[u32]) -> Ends
-    ensures { λ r. ⌜ EndsAt (now (form .entry)) r ⌝ }
-{
-    let n = form.len();
-    let first = label_end(form, 0);
-    if first >= n {
-        return Ends {
-            count: 1,
-            first,
-            second: n,
-        };
-    }
-    let second = label_end(form, first + 1);
-    if second >= n {
-        return Ends {
-            count: 2,
-            first,
-            second,
-        };
-    }
-    if label_end(form, second + 1) >= n {
-        return Ends {
-            count: 3,
-            first,
-            second,
-        };
-    }
-    Ends {
-        count: 4,
-        first,
-        second,
-    }
-}
+ghost use Rattle.names.specs.Steps.{TwoOrThree};
 
 // Where the labels stand of a form that has two or three.
 pub(crate) fn label_places(form: &[u32]) -> LabelPlaces

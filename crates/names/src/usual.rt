@@ -1,11 +1,11 @@
 // The usual name: a label that holds only what a label may, and ".jp". It is its own normal form, and what is put for it stays.
 use crate::ACCEPTED;
 use crate::AsciiForm;
-use crate::EVERY_PAIR;
-use crate::LEAST;
 use crate::OVER_63;
 use crate::whole::put_label;
 use crate::whole::refused_form;
+use labelled::EVERY_PAIR;
+use labelled::LEAST;
 use labels::any_kind;
 use labels::known_rule_with;
 use rules::Class;

@@ -93,8 +93,8 @@ pub(crate) fn hope(
 ) -> usize {
     let o = put_hopes(kanji, edition, text, out, from);
     let p = printed::put_byte(out, o, b' ');
-    let q = printed::put_flag(out, p, names::may_become_with(kanji, edition, text));
-    let r = printed::put_flag(out, q, names::may_become(edition, text));
+    let q = printed::put_flag(out, p, hopes::may_become_with(kanji, edition, text));
+    let r = printed::put_flag(out, q, hopes::may_become(edition, text));
     let state = typed(edition, text);
     printed::put_flag(out, r, state.may_become())
 }

@@ -49,7 +49,7 @@ pub extern "C" fn sagebasket_to_ascii(
 pub extern "C" fn sagebasket_may_become(edition: u32, text: &[u32]) -> u32
     ensures { λ r. ⌜ r ≡ flag (hopeful (editionOf edition) (now (text .entry))) ⌝ }
 {
-    yes(names::may_become(edition, text))
+    yes(hopes::may_become(edition, text))
 }
 
 // The ASCII form of a nameserver's host name: with 0 it is written.

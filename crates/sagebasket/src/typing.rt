@@ -110,7 +110,7 @@ pub extern "C" fn sagebasket_live_may_become(state: &[u32; 258]) -> u32
     let n = lent(state[256]);
     let edition = state[257];
     let whole: &[u32] = state;
-    yes(names::may_become(edition, &whole[0..n]))
+    yes(hopes::may_become(edition, &whole[0..n]))
 }
 
 // The whole ASCII form of the text typed.

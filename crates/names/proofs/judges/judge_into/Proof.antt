@@ -6,7 +6,7 @@ use native.Mathlib.Omega.{arith}
 use borrow.Author.Tests.{not-true, not-false}
 use Rattle.fronts.proofs.Fronting.{told-refused, told-unfit, told-fit, told-some, told-fits}
 use Rattle.names.proofs.Judging.{judges-25, judges-front, judges-on}
-use Rattle.names.proofs.OfName.{lent-known}
+use Rattle.labelled.proofs.OfName.{lent-known}
 use borrow.Author.Needs.{needs}
 use Rattle.names.proofs.judges.judge_into.Statement.{statement}
 use Rattle.names.proofs.judges.judge_into.Tie as tie
@@ -35,26 +35,26 @@ same-length-3 c = search needs
 returns-3 : tie.Need-returns-3
 returns-3 c = judges-front _ (lent-known _ _ (c .before .before .before .before .is-edition .ensures) ∙ not-false _ (c .before .before .before .if1 .left)) (told-unfit _ (c .before .before .before .before .before .before .before .front-with .ensures) (omega (arith, c .before .before .before .before .before .before .before .before .before .before .before .before .pre)) (c .before .if2 .left) (c .if3 .taken)) (λ z. omega arith)
 
-sub-name-rules : tie.Need-sub-name-rules
-sub-name-rules c = search needs
+sub-name-rules-with : tie.Need-sub-name-rules-with
+sub-name-rules-with c = search needs
 
-part-name-rules-start : tie.Need-part-name-rules-start
-part-name-rules-start c = search needs
+part-name-rules-with-start : tie.Need-part-name-rules-with-start
+part-name-rules-with-start c = search needs
 
-part-name-rules-end : tie.Need-part-name-rules-end
-part-name-rules-end c = let h = told-fits _ (told-fit _ (c .before .before .before .before .before .before .before .before .front-with .ensures) (omega (arith, c .before .before .before .before .before .before .before .before .before .before .before .before .before .pre)) (c .before .before .if2 .left) (c .before .if3 .left)) in omega (arith, c .before .before .before .before .before .before .before .before .front-with .kept .1 .1 .1 .0, c .before .before .before .before .before .before .before .before .before .before .before .before .before .pre)
+part-name-rules-with-end : tie.Need-part-name-rules-with-end
+part-name-rules-with-end c = let h = told-fits _ (told-fit _ (c .before .before .before .before .before .before .before .before .front-with .ensures) (omega (arith, c .before .before .before .before .before .before .before .before .before .before .before .before .before .pre)) (c .before .before .if2 .left) (c .before .if3 .left)) in omega (arith, c .before .before .before .before .before .before .before .before .front-with .kept .1 .1 .1 .0, c .before .before .before .before .before .before .before .before .before .before .before .before .before .pre)
 
-name-rules-requires : tie.Need-name-rules-requires
-name-rules-requires c κs = search needs
+name-rules-with-requires : tie.Need-name-rules-with-requires
+name-rules-with-requires c κs = search needs
 
 same-length-4 : tie.Need-same-length-4
 same-length-4 c = search needs
 
 returns-4 : tie.Need-returns-4
-returns-4 c = judges-on _ (lent-known _ _ (c .before .before .before .before .before .before .before .is-edition .ensures) ∙ not-false _ (c .before .before .before .before .before .before .if1 .left)) (told-fit _ (c .before .before .before .before .before .before .before .before .before .before .front-with .ensures) (omega (arith, c .before .before .before .before .before .before .before .before .before .before .before .before .before .before .before .pre)) (c .before .before .before .before .if2 .left) (c .before .before .before .if3 .left)) (c .name-rules .ensures)
+returns-4 c = judges-on _ (lent-known _ _ (c .before .before .before .before .before .before .before .is-edition .ensures) ∙ not-false _ (c .before .before .before .before .before .before .if1 .left)) (told-fit _ (c .before .before .before .before .before .before .before .before .before .before .front-with .ensures) (omega (arith, c .before .before .before .before .before .before .before .before .before .before .before .before .before .before .before .pre)) (c .before .before .before .before .if2 .left) (c .before .before .before .if3 .left)) (c .name-rules-with .ensures)
 
 pub judge-into-spec : {M : Type 1} → statement M
 judge-into-spec =
     tie.close
     (tie.spec front-with-requires is-edition-requires same-length returns same-length-2 returns-2 same-length-3 returns-3
-    sub-name-rules part-name-rules-start part-name-rules-end name-rules-requires same-length-4 returns-4)
+    sub-name-rules-with part-name-rules-with-start part-name-rules-with-end name-rules-with-requires same-length-4 returns-4)

@@ -4,7 +4,7 @@ use mathlib.Core.Path.{sym, _∙_}
 use native.Mathlib.Omega.{arith}
 use borrow.Author.Tests.{not-true, not-false}
 use Rattle.names.proofs.Answering.{ascii-no-room, ascii-25}
-use Rattle.names.proofs.OfName.{lent-known}
+use Rattle.labelled.proofs.OfName.{lent-known}
 use Rattle.names.proofs.UsualName.{ending-sizes, usual-label, as-text}
 use borrow.Author.Needs.{needs}
 use Rattle.names.proofs.whole.to_ascii_with.Statement.{statement}
