@@ -464,7 +464,8 @@ fn without_edition(line: &str) -> String {
 #[test]
 fn cases_with_today_or_no_edition_are_answered_as_without() {
     let mut seen = BTreeSet::new();
-    for line in cases::well_formed_lines() {
+    // those of the outside are asked in outside.rs
+    for line in cases::well_formed_lines().into_iter().filter(|line| !line.starts_with(['O', 'Y'])) {
         let Some(edition) = edition_of(&line) else { continue };
         let (answer, plain) =
             (probe::answer(line.as_bytes()), probe::answer(without_edition(&line).as_bytes()));

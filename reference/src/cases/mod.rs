@@ -133,9 +133,14 @@ impl CaseFile {
     }
 }
 
+/// The malformed lines of the case file, in their order.
+pub fn malformed_lines() -> Vec<String> {
+    [editions::malformed_lines(), outside::malformed_lines()].concat()
+}
+
 /// The case file without its malformed lines.
 pub fn well_formed_lines() -> Vec<String> {
-    let malformed = editions::malformed_lines();
+    let malformed = malformed_lines();
     all_lines().into_iter().filter(|line| !malformed.contains(line)).collect()
 }
 

@@ -5,7 +5,7 @@
 use super::desk::{in_utf8, utf8_sequences};
 use super::hosts::HostMaker;
 use super::random::NameMaker;
-use super::{hosts, numbers_of, tried, CaseFile, SEED};
+use super::{hosts, numbers_of, probe_line, tried, CaseFile, SEED};
 use crate::edition::Edition;
 use crate::name;
 use crate::points;
@@ -41,7 +41,7 @@ pub fn add(file: &mut CaseFile) {
     faults(file);
     labels(file);
     lines(file);
-    no_call(file);
+    malformed_lines().into_iter().for_each(|line| file.add_line(line));
     random(file);
 }
 
@@ -73,10 +73,13 @@ fn some_texts(file: &CaseFile) -> Vec<Vec<u32>> {
     texts.values().flat_map(some).collect()
 }
 
-/// Texts of 255 to 258 code points, and far more.
+/// Texts of 255 to 258 code points, and more.
 fn lengths(file: &mut CaseFile) {
-    for length in [1, 2, 255, 256, 257, 258, 300, 400] {
-        for (unit, end) in [("a", ""), ("\u{3042}", ".jp"), ("a.", "jp"), ("\u{FF76}\u{FF9E}", ".a.jp")] {
+    for length in [1, 2, 255, 256, 257, 258, 300] {
+        everything(file, &vec![0x61; length]);
+    }
+    for length in [256, 257] {
+        for (unit, end) in [("\u{3042}", ".jp"), ("a.", "jp"), ("\u{FF76}\u{FF9E}", ".a.jp")] {
             let whole = unit.repeat(length) + end;
             everything(file, &points(&whole)[..length]);
         }
@@ -86,9 +89,10 @@ fn lengths(file: &mut CaseFile) {
 /// Every edition, and numbers that are none, at a text of each answer.
 fn editions(file: &mut CaseFile) {
     let texts = ["", "abc.jp", "\u{3003}.jp", "abc.tokyo.jp", "\u{3042}.\u{6771}\u{4EAC}.jp", "ab", " "];
-    let texts = texts.map(points).into_iter().chain([vec![0x61; 257], vec![0x3042; 256]]);
-    for text in texts {
-        for edition in [0, 1, 2, 3, 4, 5, 25, 257, u32::MAX] {
+    let short = texts.map(points).into_iter().map(|text| (text, vec![0, 1, 2, 3, 4, 5, 25, 257, u32::MAX]));
+    let long = [vec![0x61; 257], vec![0x3042; 256]].map(|text| (text, vec![0, 1]));
+    for (text, editions) in short.chain(long) {
+        for edition in editions {
             for call in ON_TEXT.into_iter().chain([STATE, IS_EDITION]) {
                 file.add_in('O', edition, call, &text);
             }
@@ -178,14 +182,11 @@ fn lines(file: &mut CaseFile) {
     }
 }
 
-/// Numbers that are no call.
-fn no_call(file: &mut CaseFile) {
-    for call in [12, 13, 255, 256, 300] {
-        file.add('O', call, &[0x61]);
-    }
-    for call in [5, 6, 256] {
-        file.add('Y', call, &[0x61]);
-    }
+/// Lines whose number is no call, in their order.
+pub fn malformed_lines() -> Vec<String> {
+    let points = [12, 13, 255, 256, 300].map(|call| probe_line('O', call, &[0x61]));
+    let octets = [5, 6, 256].map(|call| probe_line('Y', call, &[0x61]));
+    points.into_iter().chain(octets).collect()
 }
 
 /// Names and hosts as they are typed, whole and damaged, by a call in turn.

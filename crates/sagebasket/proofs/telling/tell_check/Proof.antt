@@ -2,6 +2,7 @@
 -- Assumes nothing.
 use mathlib.Core.Path.{_≡_, refl, sym, ap, _∙_}
 use mathlib.Core.List.{List}
+use native.Mathlib.Omega.{arith}
 use Prim.Native.Nat.{ℕ}
 use lib.ListN.{length, getD}
 use Rattle.rules.specs.Editions.{editionOf}
@@ -19,7 +20,10 @@ no-kinds-requires : tie.Need-no-kinds-requires
 no-kinds-requires c κs = search needs
 
 told-requires : tie.Need-told-requires
-told-requires c κs = let l : length (c .before .before .before .check .last .1 .1 .0) ≡ 256 = search needs in check-small (editionOf _) (c .before .before .before .check .ensures) l
+told-requires c κs =
+    let l : length (c .before .before .before .check .last .1 .1 .0) ≡ 256 = search needs in
+    let s = check-small (editionOf _) (c .before .before .before .check .ensures) l in
+    record { place = omega (arith, s .place, s .length); length = omega (arith, s .place, s .length); stands = s .stands }
 
 cast-result : tie.Need-cast-result
 cast-result c = search needs

@@ -2,6 +2,7 @@
 -- Assumes nothing.
 use mathlib.Core.Path.{_≡_, refl, sym, ap, _∙_}
 use mathlib.Core.List.{List}
+use native.Mathlib.Omega.{arith}
 use Prim.Native.Nat.{ℕ}
 use lib.ListN.{length, getD}
 use Rattle.rules.specs.Editions.{today}
@@ -15,7 +16,10 @@ to-ascii-requires : tie.Need-to-ascii-requires
 to-ascii-requires c κs = search needs
 
 plain-requires : tie.Need-plain-requires
-plain-requires c κs = let l : length (c .before .before .to-ascii .last .1 .0) ≡ 255 = search needs in host-small today (c .before .before .to-ascii .ensures) l
+plain-requires c κs =
+    let l : length (c .before .before .to-ascii .last .1 .0) ≡ 255 = search needs in
+    let s = host-small today (c .before .before .to-ascii .ensures) l in
+    (omega (arith, s .0, s .1), omega (arith, s .0, s .1))
 
 cast-result : tie.Need-cast-result
 cast-result c = search needs

@@ -1,0 +1,3 @@
+/* Stands in for the C library's header where a test is compiled for x86-64 by the kit alone. */
+typedef unsigned char uint8_t;
+typedef unsigned int uint32_t;
