@@ -71,6 +71,10 @@ pub fn looked(shown: &Shown) -> Numbers {
     numbers(&Answer { number, place, class, kinds: Kinds::new(), labels, length })
 }
 
+pub fn is_edition(number: u32) -> bool {
+    (1..=4).contains(&number)
+}
+
 pub fn may_become(edition: u32, text: &[u32]) -> bool {
     Edition::numbered(edition).is_some_and(|edition| hope::may_become(text, edition))
 }

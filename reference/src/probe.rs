@@ -178,7 +178,7 @@ fn outside_points(edition: u32, which: usize, text: &[u32]) -> Option<String> {
         6 => looked(live().look_at_host()),
         7 => flag(live().may_become()).to_string(),
         10 => with_text("258".to_string(), &outside::state(edition, text)),
-        11 => flag(Edition::numbered(edition).is_some()).to_string(),
+        11 => flag(outside::is_edition(edition)).to_string(),
         _ => return None,
     })
 }

@@ -33,7 +33,7 @@ export class Browser {
   requests = [];
   #waiting = new Map();
   #next = 1;
-  #session;
+  #attached;
 
   static async start() {
     const browser = new Browser();
@@ -47,15 +47,15 @@ export class Browser {
 
   // A new tab, to which all goes from now on; gives the way back to the one before.
   async tab() {
-    const before = this.#session;
-    this.#session = undefined;
+    const before = this.#attached;
+    this.#attached = undefined;
     const { targetId } = await this.ask('Target.createTarget', { url: 'about:blank' });
-    this.#session = (await this.ask('Target.attachToTarget', { targetId, flatten: true })).sessionId;
+    this.#attached = (await this.ask('Target.attachToTarget', { targetId, flatten: true })).sessionId;
     for (const domain of ['Page', 'Runtime', 'Log', 'Network', 'Accessibility']) await this.ask(`${domain}.enable`);
     return async () => {
-      this.#session = undefined;
+      this.#attached = undefined;
       await this.ask('Target.closeTarget', { targetId });
-      this.#session = before;
+      this.#attached = before;
     };
   }
 
@@ -63,7 +63,7 @@ export class Browser {
     return new Promise((done, fail) => {
       const id = this.#next++;
       this.#waiting.set(id, { done, fail, method });
-      this.process.stdio[3].write(JSON.stringify({ id, method, params, ...(this.#session ? { sessionId: this.#session } : {}) }) + '\0');
+      this.process.stdio[3].write(JSON.stringify({ id, method, params, ...(this.#attached ? { sessionId: this.#attached } : {}) }) + '\0');
     });
   }
 
@@ -102,7 +102,7 @@ export class Browser {
 
   async close() {
     const gone = new Promise((done) => this.process.once('exit', done));
-    this.#session = undefined;
+    this.#attached = undefined;
     await this.ask('Browser.close').catch(() => {});
     await gone;
     fs.rmSync(this.profile, { recursive: true, force: true });

@@ -2,12 +2,12 @@
 -- 257th code point, and a state that holds no text past 256 says all.
 -- Assumes nothing.
 use mathlib.Core.Path.{_≡_, refl, sym, ap, _∙_}
-use mathlib.Core.Bool.{Bool, true, false}
+use mathlib.Core.Bool.{Bool}
 use mathlib.Core.List.{List, [], _∷_, _++_}
 use mathlib.Core.Logic.{⊎-elim}
-use Prim.Native.Nat.{ℕ, _≤_, _<_}
+use Prim.Native.Nat.{ℕ, _<_}
 use native.Mathlib.Omega.{arith}
-use lib.Dec.{eqb, ltb}
+use lib.Dec.{ltb}
 use lib.ListN.{length, take}
 use lib.Seq.{length-take-le, take-all}
 use borrow.Author.Tests.{ne-eqb}
@@ -18,14 +18,12 @@ use Rattle.lists.specs.declared.Answer.{Answer}
 use Rattle.lists.proofs.Laws.{lt-or-le, by-test}
 use Rattle.lists.proofs.Tables.{stands}
 use Rattle.normal.specs.Normal.{normalForm}
-use Rattle.rules.specs.Labels.{labels}
 use Rattle.rules.specs.Permits.{Permits}
 use Rattle.rules.specs.Places.{placesSaid}
 use Rattle.rules.specs.Rules.{textRows, verdict}
 use Rattle.rules.specs.Hosts.{hostTextRows}
-use Rattle.rules.specs.declared.Verdict.{Verdict}
 use Rattle.rules.proofs.Steps.{front-3, first-25, first-front, host-front}
-use Rattle.names.specs.Calls.{checked, checkRows, Checks, kindsSaid, asciiFormed, asciiRows, AsciiForms}
+use Rattle.names.specs.Calls.{checkRows, Checks, kindsSaid, asciiRows, AsciiForms}
 use Rattle.names.specs.declared.AsciiForm.{AsciiForm}
 use Rattle.names.specs.declared.Checked.{Checked}
 use Rattle.hosts.specs.Hosts.{codedRows, rows, callRows, HostForms}

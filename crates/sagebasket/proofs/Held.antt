@@ -6,7 +6,6 @@ use mathlib.Core.List.{List}
 use mathlib.Core.Logic.{⊎-elim}
 use Prim.Native.Nat.{ℕ, _+_, _-_, _≤_, _<_, min}
 use native.Mathlib.Omega.{arith}
-use lib.Dec.{ltb}
 use lib.ListN.{length, take, drop, getD, set, length-set, replicate, length-replicate}
 use lib.Seq.{take-set-le, take-set-lt, getD-set-same, getD-set-other, take-take, length-take-le}
 use borrow.Author.Tests.{lt-ltb, le-ltb}

@@ -5,7 +5,7 @@ use mathlib.Core.Path.{_≡_, refl, sym, ap, subst, _∙_}
 use mathlib.Core.Bool.{Bool, true, false}
 use mathlib.Core.List.{List, [], _∷_, _++_}
 use mathlib.Core.Logic.{_↔_, ⊎-elim}
-use Prim.Native.Nat.{ℕ, zero, suc, _≤_, _<_}
+use Prim.Native.Nat.{ℕ, zero, suc, _≤_}
 use native.Mathlib.Omega.{arith}
 use lib.ListN.{length, getD, replicate, length-replicate}
 use borrow.Author.Tests.{lt-ltb, le-ltb}
@@ -15,9 +15,7 @@ use Rattle.rules.specs.Kinds.{noKinds}
 use Rattle.rules.specs.declared.Class.{Class}
 use Rattle.rules.specs.declared.LabelPlaces.{LabelPlaces}
 use Rattle.names.specs.Calls.{judged, Checks, AsciiForms}
-use Rattle.names.specs.declared.Judged.{Judged}
 use Rattle.hosts.specs.Hosts.{hostJudged, HostForms}
-use Rattle.hosts.specs.declared.HostJudged.{HostJudged}
 use Rattle.live.specs.Live.{fresh, stepped, typed, lookedBy, looked, hoped}
 use Rattle.live.specs.HostLooks.{hostLooked}
 use Rattle.live.specs.declared.Live.{Live}

@@ -3,38 +3,37 @@
 -- Assumes nothing.
 use mathlib.Core.Path.{_≡_, refl, sym, ap, _∙_}
 use mathlib.Core.Bool.{Bool, true, false}
-use mathlib.Core.List.{List, [], _∷_, _++_, map}
+use mathlib.Core.List.{List, [], _∷_, map}
 use mathlib.Core.Logic.{⊎-elim}
-use Prim.Native.Nat.{ℕ, zero, suc, _+_, _≤_, _<_}
+use Prim.Native.Nat.{ℕ, zero, suc, _+_, _≤_}
 use native.Mathlib.Omega.{arith}
 use lib.Dec.{eqb, leb, ltb}
 use lib.ListN.{length, drop, getD, length-append}
 use borrow.Author.Tests.{eqb-true, le-leb, leb-true, lt-ltb, le-ltb}
 use Rattle.lists.specs.Tests.{pick, allOf, anyOf, indexOf}
 use Rattle.lists.specs.Front.{written}
-use Rattle.lists.specs.Rows.{Row, row, first, given, Gives}
+use Rattle.lists.specs.Rows.{row, first, given}
 use Rattle.lists.specs.declared.Answer.{Answer}
 use Rattle.lists.proofs.Laws.{lt-or-le, by-test, index-bound}
 use Rattle.lists.proofs.Tables.{of-two, of-rows, stands}
-use Rattle.normal.specs.Normal.{normalForm, places}
+use Rattle.normal.specs.Normal.{normalForm}
 use Rattle.normal.proofs.Laws.{no-longer}
 use Rattle.rules.specs.Labels.{labels, join}
 use Rattle.rules.specs.Permits.{Permits, isEmpty}
 use Rattle.rules.specs.Places.{startsFrom, firstThree, labelPlaces, noPlaces, placesSaid}
 use Rattle.rules.specs.Rules.{labelRows, frontRows, textRows, verdict, rules}
 use Rattle.rules.specs.Hosts.{ofHost, eachRows, hostRows, hostTextRows}
-use Rattle.rules.specs.declared.LabelPlaces.{LabelPlaces}
 use Rattle.rules.proofs.ByName.{clear-text, text-cleared}
 use Rattle.rules.proofs.Cuts.{join-labels}
 use Rattle.rules.proofs.Steps.{front-3, host-front}
 use Rattle.fronts.specs.Fronts.{shown}
-use Rattle.ascii.specs.Ascii.{asciiForm, uncoded}
-use Rattle.names.specs.Calls.{judged, checkRows, Checks, asciiRows, AsciiForms}
+use Rattle.ascii.specs.Ascii.{uncoded}
+use Rattle.names.specs.Calls.{judged, checkRows, Checks, AsciiForms}
 use Rattle.names.specs.declared.AsciiForm.{AsciiForm}
 use Rattle.names.specs.declared.Checked.{Checked}
 use Rattle.names.specs.declared.Judged.{Judged}
 use Rattle.names.proofs.Placing.{check-places}
-use Rattle.hosts.specs.Hosts.{totalRow, codedRows, rows, hostRules, callRows, hostJudged, HostForms}
+use Rattle.hosts.specs.Hosts.{codedRows, rows, hostRules, callRows, hostJudged, HostForms}
 use Rattle.hosts.specs.declared.HostForm.{HostForm}
 use Rattle.hosts.specs.declared.HostJudged.{HostJudged}
 use Rattle.punycode.specs.Calls.{Encodes, Decodes}

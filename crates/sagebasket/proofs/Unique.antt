@@ -1,26 +1,20 @@
 -- A call's statement leaves room for one result only: where the call below has one result, its numbers are one list, and the buffer is one.
 -- Where a statement is an equation, `decided` (lists, proofs/Unique) says it.
 -- Assumes nothing.
-use mathlib.Core.Path.{_≡_, refl, sym, ap, _∙_}
-use mathlib.Core.Bool.{true, false}
+use mathlib.Core.Path.{_≡_, sym, ap, _∙_}
 use mathlib.Core.List.{List, [], _∷_, _++_}
 use Prim.Native.Nat.{ℕ}
 use native.Mathlib.Omega.{arith}
-use lib.ListN.{length, take, drop, getD, take-append-drop, drop-of-length-le}
+use lib.ListN.{length, getD, take-append-drop, drop-of-length-le}
 use lib.Seq.{drop-cons}
 use Rattle.lists.proofs.Laws.{clash}
 use Rattle.lists.proofs.Unique.{decided}
 use Rattle.rules.specs.Permits.{Permits}
 use Rattle.names.specs.Calls.{Checks, AsciiForms}
-use Rattle.names.specs.declared.AsciiForm.{AsciiForm}
-use Rattle.names.specs.declared.Checked.{Checked}
 use Rattle.names.proofs.Unique.{unique}
 use Rattle.hosts.specs.Hosts.{HostForms}
-use Rattle.hosts.specs.declared.HostForm.{HostForm}
 use Rattle.hosts.proofs.Unique as hosts
 use Rattle.punycode.specs.Calls.{Encodes, Decodes}
-use Rattle.punycode.specs.declared.Decoded.{Decoded}
-use Rattle.punycode.specs.declared.Encoded.{Encoded}
 use Rattle.punycode.proofs.Unique.{encodes-once, decodes-once}
 use Rattle.live.specs.declared.Live.{Live}
 use Rattle.sagebasket.specs.Outside.{ofChecked, ofAsciiForm, ofHostForm, ofEncoded, ofDecoded, Tells, OfUtf8, Shows, held}

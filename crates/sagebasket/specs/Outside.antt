@@ -1,8 +1,8 @@
 -- What the calls of the outside answer, in numbers, and what they leave in the memory that is lent to them. A number is
--- told as it stands in documents 01 and 02; the rest of an answer is put into numbers here. What the calls below promise
--- is theirs, and is not said again.
+-- told as it stands in documents 01 and 02; the rest of an answer is put into numbers here. What the calls below
+-- promise is theirs, and is not said again.
 use mathlib.Core.Bool.{Bool, true, false}
-use mathlib.Core.List.{List, [], _∷_, _++_}
+use mathlib.Core.List.{List, _∷_, _++_}
 use mathlib.Core.Path.{_≡_}
 use Prim.Native.Nat.{ℕ, _+_}
 use lib.ListN.{take, getD, replicate}

@@ -1,8 +1,7 @@
 -- What the functions below the calls ask and answer.
-use mathlib.Core.Bool.{Bool}
 use mathlib.Core.List.{List}
 use mathlib.Core.Path.{_≡_}
-use Prim.Native.Nat.{ℕ, _≤_, min}
+use Prim.Native.Nat.{ℕ, _≤_}
 use lib.ListN.{length, take, getD}
 use Rattle.rules.specs.declared.LabelPlaces.{LabelPlaces}
 use Rattle.unicode.specs.Decodes.{codesOf}

@@ -4,7 +4,6 @@ use crate::telling::tell_ascii;
 use crate::telling::tell_check;
 use crate::telling::tell_host;
 ghost use mathlib.Core.Path.{_≡_};
-ghost use Prim.Native.Nat.{_≤_, min};
 ghost use lib.ListN.{length};
 ghost use Rattle.lists.specs.Front.{Puts};
 ghost use Rattle.rules.specs.Editions.{editionOf, today};

@@ -7,7 +7,7 @@ use crate::telling::tell_ascii;
 use crate::telling::tell_host;
 ghost use mathlib.Core.Path.{_≡_};
 ghost use Prim.Native.Nat.{min};
-ghost use lib.ListN.{length, getD};
+ghost use lib.ListN.{length};
 ghost use Rattle.rules.specs.Editions.{editionOf, today};
 ghost use Rattle.names.specs.Calls.{AsciiForms};
 ghost use Rattle.hosts.specs.Hosts.{HostForms};

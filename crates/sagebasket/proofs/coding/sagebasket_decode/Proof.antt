@@ -1,10 +1,10 @@
 -- `sagebasket_decode` meets its contract: it tells what the decoder says.
 -- Assumes nothing.
-use mathlib.Core.Path.{_≡_, refl, sym, ap, _∙_}
+use mathlib.Core.Path.{_≡_, sym, ap}
 use mathlib.Core.List.{List}
 use Prim.Native.Nat.{ℕ}
 use lib.ListN.{length, getD}
-use Rattle.sagebasket.specs.Outside.{classNumber, kindsNumber, numbers, unnamed, ofDecoded}
+use Rattle.sagebasket.specs.Outside.{numbers, unnamed, ofDecoded}
 use Rattle.sagebasket.proofs.Small.{decode-small}
 use borrow.Author.Needs.{needs}
 use Rattle.sagebasket.proofs.coding.sagebasket_decode.Statement.{statement}

@@ -1,6 +1,6 @@
 -- `sagebasket_is_edition` meets its contract: it says what `is_edition` says.
 -- Assumes nothing.
-use mathlib.Core.Path.{_≡_, refl, sym, ap, _∙_}
+use mathlib.Core.Path.{ap, _∙_}
 use Rattle.sagebasket.specs.Outside.{flag}
 use borrow.Author.Needs.{needs}
 use Rattle.sagebasket.proofs.naming.sagebasket_is_edition.Statement.{statement}

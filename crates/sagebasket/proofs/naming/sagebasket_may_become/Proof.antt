@@ -1,6 +1,6 @@
 -- `sagebasket_may_become` meets its contract: it says what `may_become` says.
 -- Assumes nothing.
-use mathlib.Core.Path.{_≡_, refl, sym, ap, _∙_}
+use mathlib.Core.Path.{ap, _∙_}
 use Rattle.sagebasket.specs.Outside.{flag}
 use borrow.Author.Needs.{needs}
 use Rattle.sagebasket.proofs.naming.sagebasket_may_become.Statement.{statement}

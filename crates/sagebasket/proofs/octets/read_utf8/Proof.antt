@@ -1,9 +1,9 @@
 -- `read_utf8` meets its contract: the two ways of the branch are those of `min`.
 -- Assumes nothing.
-use mathlib.Core.Path.{_≡_, refl, sym, ap, _∙_}
+use mathlib.Core.Path.{_≡_, ap}
 use native.Mathlib.Omega.{arith}
 use Prim.Native.Nat.{min}
-use lib.ListN.{length, getD}
+use lib.ListN.{length}
 use Rattle.unicode.specs.Decodes.{codesOf}
 use Rattle.unicode.specs.declared.Decoded.{Decoded}
 use Rattle.sagebasket.proofs.Reading.{read-room, read-is}

@@ -1,8 +1,7 @@
 -- `sagebasket_line` meets its contract: it says what the call for a line says, which has room; the table of kanji is lent.
 -- Assumes nothing.
-use mathlib.Core.Path.{_≡_, refl, sym, ap, _∙_}
-use lib.ListN.{length, getD}
-use Rattle.characters.specs.KanjiBits.{kanjiBits}
+use mathlib.Core.Path.{_≡_}
+use lib.ListN.{length}
 use Rattle.lists.specs.Front.{Puts}
 use Rattle.rules.specs.Permits.{Permits}
 use Rattle.rules.proofs.Editions.{lending}

@@ -1,9 +1,8 @@
 -- `sagebasket_to_ascii_utf8` meets its contract: 16 where the octets do not decode, else what is told of the code points read.
 -- Assumes nothing.
-use mathlib.Core.Path.{_≡_, refl, sym, ap, _∙_}
-use lib.ListN.{length, getD}
+use mathlib.Core.Path.{refl, sym, _∙_}
 use borrow.Author.Tests.{not-true, not-false}
-use Rattle.rules.specs.Editions.{editionOf, today}
+use Rattle.rules.specs.Editions.{editionOf}
 use Rattle.sagebasket.specs.Outside.{OfUtf8}
 use Rattle.sagebasket.proofs.Alike.{ascii-alike}
 use Rattle.sagebasket.proofs.Reading.{read-said}

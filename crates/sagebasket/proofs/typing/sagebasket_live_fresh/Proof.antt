@@ -1,6 +1,6 @@
 -- `sagebasket_live_fresh` meets its contract: zeros and the edition are the fresh state.
 -- Assumes nothing.
-use mathlib.Core.Path.{_≡_, refl, sym, ap, _∙_}
+use mathlib.Core.Path.{refl}
 use Rattle.live.specs.Live.{fresh}
 use Rattle.sagebasket.specs.Outside.{held}
 use borrow.Author.Needs.{needs}

@@ -1,12 +1,8 @@
 -- `sagebasket_live_host_to_ascii` meets its contract: it tells what the ASCII form of a host says of the text held.
 -- Assumes nothing.
-use mathlib.Core.Path.{_≡_, refl, sym, ap, _∙_}
-use mathlib.Core.List.{List}
-use Prim.Native.Nat.{ℕ}
-use lib.ListN.{length, getD}
+use mathlib.Core.Path.{_≡_}
+use lib.ListN.{length}
 use Rattle.rules.specs.Editions.{today}
-use Rattle.hosts.specs.Hosts.{HostForms}
-use Rattle.sagebasket.specs.Outside.{ofHostForm, Tells}
 use Rattle.sagebasket.proofs.Alike.{host-alike}
 use Rattle.sagebasket.proofs.Held.{held-said}
 use borrow.Author.Needs.{needs}

@@ -1,6 +1,6 @@
 -- `sagebasket_live_look_host` meets its contract: the judge of hosts is handed the text held, and past 256 a text as long.
 -- Assumes nothing.
-use mathlib.Core.Path.{_≡_, refl, sym, ap, _∙_}
+use mathlib.Core.Path.{_≡_, sym, ap, _∙_}
 use mathlib.Core.List.{List}
 use Prim.Native.Nat.{ℕ}
 use lib.ListN.{length, getD}
@@ -9,7 +9,7 @@ use Rattle.hosts.specs.Hosts.{hostJudged}
 use Rattle.hosts.specs.declared.HostJudged.{HostJudged}
 use Rattle.live.specs.HostLooks.{hostTooLong, hostLooked}
 use Rattle.live.proofs.Hosts.{past}
-use Rattle.sagebasket.specs.Outside.{held, numbers, unnamed, ofHostJudged}
+use Rattle.sagebasket.specs.Outside.{numbers, unnamed, ofHostJudged}
 use Rattle.sagebasket.proofs.Small.{host-judged-small}
 use Rattle.sagebasket.proofs.Held.{looked-at}
 use borrow.Author.Needs.{needs}

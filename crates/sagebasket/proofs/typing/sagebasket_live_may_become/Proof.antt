@@ -1,6 +1,6 @@
 -- `sagebasket_live_may_become` meets its contract: past 256 there is no hope by any edition.
 -- Assumes nothing.
-use mathlib.Core.Path.{_≡_, refl, sym, ap, _∙_}
+use mathlib.Core.Path.{_≡_, ap, _∙_}
 use lib.ListN.{length, getD}
 use mathlib.Core.Bool.{false}
 use Rattle.rules.specs.Editions.{editionOf}

@@ -1,12 +1,9 @@
 -- `sagebasket_live_to_ascii` meets its contract: it tells what the whole ASCII form says of the text held.
 -- Assumes nothing.
-use mathlib.Core.Path.{_≡_, refl, sym, ap, _∙_}
-use mathlib.Core.List.{List}
-use Prim.Native.Nat.{ℕ}
+use mathlib.Core.Path.{_≡_}
 use lib.ListN.{length, getD}
 use Rattle.rules.specs.Editions.{editionOf}
-use Rattle.names.specs.Calls.{AsciiForms}
-use Rattle.sagebasket.specs.Outside.{held, ofAsciiForm, Tells}
+use Rattle.sagebasket.specs.Outside.{held}
 use Rattle.sagebasket.proofs.Alike.{ascii-alike}
 use Rattle.sagebasket.proofs.Held.{held-said}
 use borrow.Author.Needs.{needs}
