@@ -13,6 +13,8 @@ A place counts from 0. A refused text has no class (None), no kinds (''), no lab
 The library is libsagebasket.so.0. It is looked for by the variable SAGEBASKET_LIBRARY, then beside this file, then by the system's loader.
 The calls keep nothing, so any threads may call at once; a Live is for one thread at a time.
 
+What the calls of the library answer and write is proved. This module, ctypes and the compiler are not: tests compare all of it with `desk`.
+
 `python3 -m sagebasket NAME...` judges names: `desk`'s fields, but the name in place of the id.
 """
 from __future__ import annotations

@@ -5,3 +5,4 @@ mod Reading
 mod Hopeless
 pub mod Nightly
 pub mod Unique
+pub mod Room
