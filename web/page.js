@@ -53,10 +53,11 @@ function judge(text) {
   return { text, family, edition: Number(edition.value), number, place, class: letter, kinds, normal, ascii, hope: live.mayBecome() };
 }
 
-// empty, good, open (refused as it is, but can go on) or bad
+// empty, good, open (refused as it is, but can go on), bad (it cannot), or refused as it is, where nobody says whether it can go on
 function stateOf({ text, number, hope }) {
   if (text === '') return 'empty';
   if (number === 0) return 'good';
+  if (hope === null) return 'refused';
   return hope ? 'open' : 'bad';
 }
 

@@ -1,9 +1,12 @@
-// The wasm in Node: what it exports and asks for, and its answers to the lines of a batch, by sagebasket_line and by the live check, beside `desk`'s.
+// The wasm in Node: what it exports and asks for, how large it is as brotli sends it, and its answers to the lines of a batch, by sagebasket_line and by
+// the live check, beside `desk`'s.
 // usage: node tests/c/wasm.mjs WASM LINES ANSWERS
 import { readFileSync } from 'node:fs';
+import { brotliCompressSync } from 'node:zlib';
 
 const CALLS = 'is_edition encode decode line live_fresh live_step live_look live_look_host live_may_become live_to_ascii live_host_to_ascii';
 const PAGE = 65536;
+const MOST_SENT = 10000;
 const [wasm, linesFile, answersFile] = process.argv.slice(2);
 const module = new WebAssembly.Module(readFileSync(wasm));
 const wrong = (what) => {
@@ -11,6 +14,8 @@ const wrong = (what) => {
     process.exit(1);
 };
 
+const sent = brotliCompressSync(readFileSync(wasm)).length; // at quality 11, its own default
+if (sent > MOST_SENT) wrong(`it is ${sent} octets as brotli sends it`);
 const names = WebAssembly.Module.exports(module).map((e) => e.name).sort();
 const wanted = ['memory', '__heap_base', ...CALLS.split(' ').map((name) => `sagebasket_${name}`)].sort();
 if (WebAssembly.Module.imports(module).length) wrong('it imports something');

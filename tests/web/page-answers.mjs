@@ -121,10 +121,13 @@ export async function hosts(hands) {
   await hands.focus('text');
   for (const [text, should, picture] of HOSTS) {
     await hands.put(text);
-    const state = should.number === 0 ? 'good' : 'bad';
-    await hands.shows(`host ${text.slice(0, 20)}`, { outlook: '', invalid: String(state === 'bad'), state, ...should });
+    // of a host nobody says whether it can go on: no number makes it bad
+    const state = should.number === 0 ? 'good' : 'refused';
+    await hands.shows(`host ${text.slice(0, 20)}`, { outlook: '', invalid: 'false', state, ...should });
     if (picture) await hands.shot(picture);
   }
+  await hands.enter();
+  await hands.shows('a refused host, sent', { invalid: 'true', state: 'refused' });
 }
 
 export async function editions(hands) {

@@ -68,15 +68,16 @@ const CONTRAST = `(() => {
 export async function colours(hands) {
   const { browser, tally } = hands;
   for (const scheme of ['light', 'dark']) {
-    const features = [{ name: 'prefers-color-scheme', value: scheme }, { name: 'prefers-reduced-motion', value: 'reduce' }];
-    await browser.ask('Emulation.setEmulatedMedia', { features });
+    await browser.ask('Emulation.setEmulatedMedia', { features: [{ name: 'prefers-color-scheme', value: scheme }] });
     await hands.anew();
-    for (const text of ['-あ.jp', 'さくら', 'さくら.jp', '']) {
+    for (const [family, text] of [['host', 'a.b'], ['name', '-あ.jp'], ['name', 'さくら'], ['name', 'さくら.jp'], ['name', '']]) {
+      await hands.family(family);
+      await hands.focus('text');
       await hands.put(text);
       await hands.enter();
-      tally.want(`contrast of ${text}, ${scheme}`, await browser.value(CONTRAST), []);
+      tally.want(`contrast of the ${family} ${text}, ${scheme}`, await browser.value(CONTRAST), []);
     }
-    tally.want('nothing moves', await browser.value('getComputedStyle(document.getElementById("answer")).transitionDuration'), '0s');
+    tally.want('nothing moves: the answer has its colour at once', await browser.value('getComputedStyle(document.getElementById("answer")).transitionDuration'), '0s');
     await hands.put('はら小児科.tokio.jp');
     await hands.shot(scheme);
   }

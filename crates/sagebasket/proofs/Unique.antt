@@ -1,5 +1,5 @@
 -- A call's statement leaves room for one result only: where the call below has one result, its numbers are one list, and the buffer is one.
--- Where a statement is an equation, `decided` (lists, proofs/Unique) says it.
+-- Where a statement is an equation, `decided` (lists, proofs/Unique) says it; of an answer line `puts-once` (lists, proofs/Pieces) does.
 -- Assumes nothing.
 use mathlib.Core.Path.{_≡_, sym, ap, _∙_}
 use mathlib.Core.List.{List, [], _∷_, _++_}
