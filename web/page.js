@@ -141,8 +141,8 @@ function settle() {
 }
 
 // Before an answer is gone it is kept, where the text was not just typed on at its end: when something was pasted, replaced or taken away
-// in one go. Single characters that are taken away or put in between come in runs: of these the answer before the first is kept, where
-// the text could not go on, and where nothing is left in the end.
+// in one go. Single characters that are taken away or put in between come in runs: of these the answer before the first is kept, unless
+// it was said that the text can go on (of a host it never is), and where nothing is left in the end.
 function leave(answer, now, pasted) {
   if (now === answer.text) return;
   const { taken, put } = changed(answer.text, now);

@@ -50,6 +50,20 @@ export async function edits(hands) {
   await hands.lists('left', [['abc.jp', 0], ['abc.com', 11], ['さくら', 5], ['花.jp', 0], ['abc花.jp', 0]]);
 }
 
+// Nobody says of a host that it can go on, so what stood before the first of some small edits is kept.
+export async function hostEdits(hands) {
+  await hands.anew();
+  await hands.family('host');
+  await hands.focus('text');
+  await hands.type('ns1.abv');
+  await hands.lists('a host typed on', []);
+  await hands.backspace();
+  await hands.type('c.jp');
+  await hands.lists('a slip in a host', [['ns1.abv', 5]]);
+  await hands.enter();
+  await hands.lists('a host sent', [['ns1.abv', 5], ['ns1.abc.jp', 0]]);
+}
+
 export async function families(hands) {
   await hands.anew();
   await hands.insert('a.b.c');
