@@ -137,6 +137,11 @@ uint32_t sagebasket_to_ascii(uint32_t edition, const uint32_t *text, size_t coun
  * refused for good, or there is no such edition. */
 uint32_t sagebasket_may_become(uint32_t edition, const uint32_t *text, size_t count);
 
+/* Is the text acceptable: would sagebasket_check answer 0 by the edition in force? 1 yes, 0 no. For a search box: no
+ * buffer is lent. *read is how many code points were read: 0 where the length alone refuses (none, or more than 256),
+ * the place of the first unfit character and one more where one stops it, else all. What was not read plays no part. */
+uint32_t sagebasket_acceptable(const uint32_t *text, size_t count, uint32_t *read);
+
 /* The ASCII form of a nameserver's host name, at most 253 octets. 0, 2 to 7, 9, 10, 17 or 19. Tells no class, kinds or
  * labels. Two accepted hosts have the same ASCII form exactly where they have the same normal form. */
 uint32_t sagebasket_host_to_ascii(const uint32_t *text, size_t count,

@@ -28,6 +28,7 @@ Text = Union[str, bytes, bytearray]
 Labels = List[Tuple[int, int]]
 
 IN_FORCE = 4
+MOST = 256
 LIBRARY = 'libsagebasket.so.0'
 MEANINGS = {
     0: 'accepted',
@@ -70,6 +71,15 @@ class AsciiForm(NamedTuple):
     ascii: str
 
 
+class Acceptable(NamedTuple):
+    """Is a text acceptable, and how many of its code points were read? It is true where it is."""
+    yes: bool
+    read: int
+
+    def __bool__(self) -> bool:
+        return self.yes
+
+
 class HostForm(NamedTuple):
     """The ASCII form of a host."""
     number: int
@@ -106,16 +116,17 @@ class _State(ctypes.Structure):
     _fields_ = [('text', ctypes.c_uint32 * 256), ('count', ctypes.c_uint32), ('edition', ctypes.c_uint32)]
 
 
-# What each call takes: n a number, c code points with their count, o octets with their count, b a buffer, a an answer, s a state.
+# What each call takes: n a number, c code points with their count, o octets with their count, b a buffer, a an answer, s a state, r room for
+# one number.
 _CALLS = {
     'is_edition': 'n', 'check': 'ncba', 'to_ascii': 'ncba', 'may_become': 'nc', 'host_to_ascii': 'cba', 'check_utf8': 'noba',
     'to_ascii_utf8': 'noba', 'host_to_ascii_utf8': 'oba', 'encode': 'cba', 'decode': 'oba', 'line': 'ob', 'live_fresh': 'ns',
     'live_step': 'sn', 'live_look': 'sba', 'live_look_host': 'sba', 'live_may_become': 's', 'live_to_ascii': 'sba',
-    'live_host_to_ascii': 'sba',
+    'live_host_to_ascii': 'sba', 'acceptable': 'cr',
 }
 _TYPES = {
     'n': [ctypes.c_uint32], 'c': [ctypes.c_char_p, ctypes.c_size_t], 'o': [ctypes.c_char_p, ctypes.c_size_t], 'b': [ctypes.c_void_p],
-    'a': [ctypes.POINTER(_Answer)], 's': [ctypes.POINTER(_State)],
+    'a': [ctypes.POINTER(_Answer)], 's': [ctypes.POINTER(_State)], 'r': [ctypes.POINTER(ctypes.c_uint32)],
 }
 
 
@@ -144,6 +155,18 @@ def _number(n: int, what: str) -> int:
 def _codes(text: str) -> bytes:
     """The code points of a text, 32 bits to each, in this machine's order. What follows the last is not read."""
     return text.encode('utf-32-le' if sys.byteorder == 'little' else 'utf-32-be', 'surrogatepass')
+
+
+def _str(text: Text) -> Optional[str]:
+    """The text of a str, or of bytes that are UTF-8; None of other bytes."""
+    if isinstance(text, (bytes, bytearray)):
+        try:
+            return text.decode('utf-8')
+        except UnicodeDecodeError:
+            return None
+    if not isinstance(text, str):
+        raise TypeError('a text is str or bytes, not %s' % type(text).__name__)
+    return text
 
 
 def _ask(name: str, buffer, text: Text, *edition: int) -> _Answer:
@@ -205,14 +228,20 @@ def to_ascii(text: Text, edition: int = IN_FORCE) -> AsciiForm:
 def may_become(text: Text, edition: int = IN_FORCE) -> bool:
     """May the text yet become a name: is some continuation of it accepted? Bytes that are not UTF-8 may not."""
     edition = _number(edition, 'an edition')
-    if isinstance(text, (bytes, bytearray)):
-        try:
-            text = text.decode('utf-8')
-        except UnicodeDecodeError:
-            return False
-    if not isinstance(text, str):
-        raise TypeError('a text is str or bytes, not %s' % type(text).__name__)
-    return bool(_library.sagebasket_may_become(edition, _codes(text), len(text)))
+    given = _str(text)
+    return given is not None and bool(_library.sagebasket_may_become(edition, _codes(given), len(given)))
+
+
+def acceptable(text: Text) -> Acceptable:
+    """Would the check answer 0, by the edition in force? Reading stops at the first unfit character, and a text that is too long is not read at
+    all; `read` counts code points. Bytes that are not UTF-8 are not acceptable, and none is read."""
+    given = _str(text)
+    if given is None:
+        return Acceptable(False, 0)
+    given = given[:MOST + 1]  # past that the length alone refuses
+    read = ctypes.c_uint32()
+    yes = _library.sagebasket_acceptable(_codes(given), len(given), read)
+    return Acceptable(bool(yes), read.value)
 
 
 def host_to_ascii(text: Text) -> HostForm:

@@ -40,6 +40,12 @@ export interface AsciiAnswer extends Answer {
   kinds: Kinds;
 }
 
+/** Yes or no, and how many code points of the text were read. */
+export interface Searched {
+  yes: boolean;
+  read: number;
+}
+
 /** The bytes of a file, or what has them as a Response does. */
 export type Source = ArrayBuffer | ArrayBufferView | { arrayBuffer(): Promise<ArrayBuffer> };
 
@@ -63,6 +69,11 @@ export interface Sagebasket {
   toAscii(text: string, edition?: number): AsciiAnswer;
   /** Is there a continuation of the text, the empty one included, that is accepted? */
   mayBecome(text: string, edition?: number): boolean;
+  /**
+   * For a search box: would check answer 0 by the edition in force? Read are no code points where the length alone refuses (none,
+   * or more than 256), the place of the first unfit character and one more where one stops it, else all.
+   */
+  acceptable(text: string): Searched;
   /** With 0 `text` is the ASCII form of a nameserver's host name. */
   hostToAscii(text: string): Answer;
   /** The coder of one label: 0, 13 or 14. With 0 `text` is the encoding, with xn--. */

@@ -84,9 +84,19 @@ class Module {
     this.calls = calls;
     this.answer = lend(Uint32Array, 12);
     this.state = lend(Uint32Array, 258);
-    this.points = lend(Uint32Array, 256);
+    this.points = lend(Uint32Array, FULL);
     this.octets = lend(Uint8Array, MOST_LINE);
     this.ascii = lend(Uint8Array, 256);
+  }
+
+  // Puts the code points of a text where they are lent, and says how many: no more than these are handed over.
+  lent(text, most) {
+    let count = 0;
+    for (const c of codePoints(text)) {
+      if (count === most) break;
+      this.points[count++] = c;
+    }
+    return BigInt(count);
   }
 
   // The last call's answer, and how much it wrote.
@@ -132,6 +142,13 @@ class Sagebasket {
     return this.#typed(text, edition).mayBecome();
   }
 
+  acceptable(text) {
+    wantString(text, 'a text');
+    const { calls, points, answer } = this.#module;
+    const yes = calls.sagebasket_acceptable(points.byteOffset, this.#module.lent(text, FULL), answer.byteOffset);
+    return { yes: yes === 1, read: answer[0] };
+  }
+
   hostToAscii(text) {
     return this.#typed(text, EDITION_IN_FORCE).hostToAscii();
   }
@@ -139,12 +156,7 @@ class Sagebasket {
   encode(label) {
     wantString(label, 'a label');
     const { calls, points, ascii, answer } = this.#module;
-    let count = 0;
-    for (const c of codePoints(label)) {
-      if (count === MOST_LABEL) break;
-      points[count++] = c;
-    }
-    calls.sagebasket_encode(points.byteOffset, BigInt(count), ascii.byteOffset, answer.byteOffset);
+    calls.sagebasket_encode(points.byteOffset, this.#module.lent(label, MOST_LABEL), ascii.byteOffset, answer.byteOffset);
     const { number, place } = this.#module.told();
     return { number, place, text: this.#module.toldAscii() };
   }

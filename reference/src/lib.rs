@@ -19,6 +19,7 @@ pub mod normal;
 pub mod outside;
 pub mod probe;
 pub mod random;
+pub mod search;
 pub mod sweep;
 pub mod utf8;
 

@@ -12,6 +12,7 @@ use crate::live::{Live, Shown};
 use crate::name::{self, Family};
 use crate::normal;
 use crate::outside::{self, Numbers};
+use crate::search::{self, Searched};
 use std::fmt::LowerHex;
 
 pub const LONGEST_LINE: usize = 4000;
@@ -66,6 +67,7 @@ fn on_numbers(call: &str, edition: u32, lent: usize, numbers: &[u32]) -> Option<
         "X" => in_octets(lent, |buffer| plain(&calls::label_form(numbers, buffer))),
         "R" => in_points(lent, |buffer| asked_first(numbers, edition, buffer)),
         "S" | "s" => flag(grammar::second_reader(numbers)).to_string(),
+        "Z" | "z" => searched(search::acceptable(numbers)),
         "L" | "l" | "J" | "j" => live(edition, numbers),
         "V" | "v" | "G" | "g" => live_host(edition, numbers),
         "M" => hopes(edition, numbers),
@@ -179,6 +181,7 @@ fn outside_points(edition: u32, which: usize, text: &[u32]) -> Option<String> {
         7 => flag(live().may_become()).to_string(),
         10 => with_text("258".to_string(), &outside::state(edition, text)),
         11 => flag(outside::is_edition(edition)).to_string(),
+        12 => told_read(search::acceptable(text)),
         _ => return None,
     })
 }
@@ -199,6 +202,17 @@ fn outside_octets(edition: u32, which: usize, octets: &[u8]) -> Option<String> {
         4 => in_octets(256, |reply| format!("{:x}", calls::answer_line(octets, reply).unwrap_or(0))),
         _ => return None,
     })
+}
+
+/// Yes or no, and how many code points were read.
+fn searched(searched: Searched) -> String {
+    format!("{} {}", flag(searched.yes), searched.read)
+}
+
+/// The same as the outside tells it: what it returns, and what it puts where it
+/// was lent one number.
+fn told_read(searched: Searched) -> String {
+    format!("{} {:x}", flag(searched.yes), searched.read)
 }
 
 /// The state of the live check after these code points.

@@ -90,7 +90,7 @@ fn no_edition() {
 #[test]
 fn every_call_is_asked() {
     let lines = well_formed_lines();
-    for (letter, calls) in [('O', 12), ('Y', 5)] {
+    for (letter, calls) in [('O', 13), ('Y', 5)] {
         for call in 0..calls {
             let with = |line: &&String| {
                 line.starts_with(letter) && line.split(' ').nth(1) == Some(&call.to_string())

@@ -131,6 +131,16 @@ static void check_calls(uint32_t edition, sagebasket_answer want) {
     holds("look", edition);
 }
 
+/* Yes or no for the search box, by number and place of the ASCII form. */
+static void search_calls(const sagebasket_answer *want) {
+    uint32_t lent[3] = {0xA5A5A5A5u, 0xA5A5A5A5u, 0xA5A5A5A5u};
+    size_t count = want->number == 2 || want->number == 3 ? 0 : want->number == 4 ? want->place + 1 : text_count;
+    uint32_t yes = sagebasket_acceptable(text, text_count, &lent[1]);
+    if (yes != (want->number == 0)) fault("acceptable", "another answer than the ASCII form's");
+    if (lent[1] != count) fault("acceptable", "another count");
+    if (lent[0] != 0xA5A5A5A5u || lent[2] != 0xA5A5A5A5u) fault("acceptable", "a number beside the count was written");
+}
+
 /* A host by its calls. What the first says is compared with the second implementation's answers elsewhere (probes). */
 static void host_calls(void) {
     static uint8_t ascii[MOST];
@@ -283,6 +293,7 @@ static void judge_name(void) {
     type_text(SAGEBASKET_IN_FORCE);
     ascii_calls(SAGEBASKET_IN_FORCE, &want, ascii);
     check_calls(SAGEBASKET_IN_FORCE, want);
+    search_calls(&want);
     host_calls();
     if (want.number == 0) same_labels(ascii, want.length);
     there_and_back(text, text_count);

@@ -1,5 +1,5 @@
 /* Answers probes by the C calls, in the format of reference/README.md: those of the letters O and Y, and C, A, H, E, D, L, J, V, G, M, I, N, W,
- * B (and their lower case) that ask for full room. N, the normal form, is read off a look. Of U only the first word is answered. Every other probe is
+ * B, Z (and their lower case) that ask for full room. N, the normal form, is read off a look. Of U only the first word is answered. Every other probe is
  * answered by ~. As border.c it needs no header of the C library, and it says on standard error where a guard was written.
  *
  * usage: probe < PROBES > ANSWERS */
@@ -116,6 +116,14 @@ static void type_numbers(void) {
     for (size_t i = 0; i < count; i++) sagebasket_live_step(&typed, numbers[i]);
 }
 
+/* Yes or no and the count, into one number that is lent. */
+static void put_searched(uint32_t base) {
+    uint32_t lent[3] = {0xA5A5A5A5u, 0xA5A5A5A5u, 0xA5A5A5A5u};
+    put_word(sagebasket_acceptable(numbers, count, &lent[1]));
+    put_number(lent[1], base);
+    if (lent[0] != 0xA5A5A5A5u || lent[2] != 0xA5A5A5A5u) fault("acceptable", "a number beside the count was written");
+}
+
 static int on_codes(char call) {
     switch (call) {
     case 'C':
@@ -139,6 +147,7 @@ static int on_codes(char call) {
         put_octets();
         return 1;
     case 'I': put_number(sagebasket_is_edition(edition), 10); return 1;
+    case 'Z': put_searched(10); return 1;
     default: return 0;
     }
 }
@@ -275,6 +284,7 @@ static int outside_codes(void) {
     case 9: told_octets(sagebasket_live_host_to_ascii(&typed, octets.at, &told.at)); return 1;
     case 10: put_state(); return 1;
     case 11: put_number(sagebasket_is_edition(edition), 16); return 1;
+    case 12: put_searched(16); return 1;
     default: return 0;
     }
 }

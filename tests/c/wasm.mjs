@@ -4,7 +4,7 @@
 import { readFileSync } from 'node:fs';
 import { brotliCompressSync } from 'node:zlib';
 
-const CALLS = 'is_edition encode decode line live_fresh live_step live_look live_look_host live_may_become live_to_ascii live_host_to_ascii';
+const CALLS = 'is_edition acceptable encode decode line live_fresh live_step live_look live_look_host live_may_become live_to_ascii live_host_to_ascii';
 const PAGE = 65536;
 const MOST_SENT = 10000;
 const [wasm, linesFile, answersFile] = process.argv.slice(2);
@@ -44,6 +44,15 @@ const answerTo = (bytes) => {
     return Buffer.from(octets.slice(out, out + length)).toString('latin1');
 };
 
+// Yes or no for the search box, by number and place of the ASCII form.
+const searched = (name, number, place) => {
+    const points = Array.from(name, (c) => c.codePointAt(0)), read = ascii;
+    words.set(points, line / 4);
+    const yes = calls.sagebasket_acceptable(line, BigInt(points.length), read);
+    const count = number === 2 || number === 3 ? 0 : number === 4 ? place + 1 : points.length;
+    if (yes !== Number(number === 0) || words[read / 4] !== count) wrong(`the search box reads ${words[read / 4]} of ${name}`);
+};
+
 // The answer line by the live check, of a line that is not bad.
 const byTyping = (id, name) => {
     calls.sagebasket_live_fresh(4, state);
@@ -53,6 +62,7 @@ const byTyping = (id, name) => {
     if (again !== number) wrong('another number is returned');
     if (calls.sagebasket_live_look(state, form, answer) !== number || words[answer / 4 + 1] !== place) wrong('look and ASCII form do not agree');
     if (number === 0 && calls.sagebasket_live_may_become(state) !== 1) wrong('an accepted name may not become one');
+    searched(name, number, place);
     const letters = [...'HKJS'].filter((_, bit) => (kinds >> bit) & 1).join('') || '-';
     const shown = number === 0 ? Buffer.from(octets.slice(ascii, ascii + length)).toString('latin1') : '-';
     return `${id}\t${number}\t${place}\t${'-GP'[nameClass]}\t${shown}\t${letters}\n`;

@@ -79,19 +79,29 @@ def judge_labels(checked, ascii):
             same("Python's punycode", 'xn--' + label.encode('punycode').decode('ascii'), code)
 
 
+def judge_search(name, text, want):
+    """Yes or no for the search box, by number and place of the ASCII form."""
+    read = {2: 0, 3: 0, 4: want.place + 1}.get(want.number, len(text))
+    same('acceptable', sagebasket.acceptable(text), (want.number == 0, read))
+    same('acceptable of UTF-8', sagebasket.acceptable(name), (want.number == 0, read))
+    same('acceptable as yes or no', bool(sagebasket.acceptable(text)), want.number == 0)
+
+
 def judge(number, line, answer):
     same('line', sagebasket.line(line), answer)
     name = line.split(b'\t', 1)[-1]
     try:
         text = name.decode('utf-8')
     except UnicodeDecodeError:
-        same('not UTF-8', (sagebasket.check(name), sagebasket.to_ascii(name), sagebasket.host_to_ascii(name), sagebasket.may_become(name)),
-             ((16, 0, None, '', []), (16, 0, None, '', ''), (16, 0, ''), False))
+        same('not UTF-8', (sagebasket.check(name), sagebasket.to_ascii(name), sagebasket.host_to_ascii(name), sagebasket.may_become(name),
+                           sagebasket.acceptable(name)),
+             ((16, 0, None, '', []), (16, 0, None, '', ''), (16, 0, ''), False, (False, 0)))
         return
     bad = answer.startswith(b'-\t16\t')
     want = sagebasket.to_ascii(text) if bad else expected(answer)
     live, checked = judge_forms(name, text, want, sagebasket.IN_FORCE)
     judge_labels(checked, want.ascii)
+    judge_search(name, text, want)
     host = sagebasket.host_to_ascii(text)
     same('host of UTF-8', sagebasket.host_to_ascii(name), host)
     same('live host', live.host_to_ascii(), host)
@@ -104,7 +114,7 @@ def bad_use():
     """What is no text, no edition, no step."""
     for wrong in (None, 1, 1.5, ['a'], memoryview(b'a'), object()):
         for call in (sagebasket.check, sagebasket.to_ascii, sagebasket.may_become, sagebasket.host_to_ascii, sagebasket.encode, sagebasket.decode,
-                     sagebasket.line):
+                     sagebasket.line, sagebasket.acceptable):
             raises('%s of %r' % (call.__name__, wrong), TypeError, call, wrong)
     raises('encode of bytes', TypeError, sagebasket.encode, b'a')
     for wrong in ('4', None, 4.0, True, b'4'):
@@ -128,6 +138,8 @@ def fixed():
     same('no octets', sagebasket.to_ascii(b''), (2, 0, None, '', ''))
     same('257', sagebasket.check('a' * 257), (3, 256, None, '', []))
     same('a million', sagebasket.to_ascii('あ' * 1000000), (3, 256, None, '', ''))
+    same('a million in the search box', sagebasket.acceptable('!' * 1000000), (False, 0))
+    same('document 02', (sagebasket.acceptable('う゛.jp'), sagebasket.acceptable('ｶﾞ.jp')), ((False, 2), (True, 5)))
     same('NUL', sagebasket.check('a\0b.jp'), (4, 1, None, '', []))
     same('NUL in UTF-8', sagebasket.check(b'a\0b.jp'), (4, 1, None, '', []))
     same('an odd number', sagebasket.Live().step(0xFFFFFFFF).look(), (4, 0, None, '\ufffd', []))

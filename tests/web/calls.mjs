@@ -74,6 +74,9 @@ function compareName(name, [, number, place, letter, form, kinds]) {
   const host = live.lookHost(), hostAscii = live.hostToAscii();
   want(`host ${name}`, [host.number, host.place, hostAscii], [hostAscii.number, hostAscii.place, sagebasket.hostToAscii(name)]);
   want(`normal form of ${name}`, host.text, look.text);
+  const length = Array.from(name).length;
+  const read = said.number === 2 || said.number === 3 ? 0 : said.number === 4 ? said.place + 1 : length;
+  want(`the search box on ${name}`, sagebasket.acceptable(name), { yes: accepted, read });
   if (accepted) compareLabels(name, check, ascii);
 }
 
@@ -124,6 +127,9 @@ function compareOdd() {
   want('a lone surrogate', sagebasket.check('a\ud800.jp'), { number: 4, place: 1, class: '-', labels: [], text: '' });
   want('past 257', sagebasket.check('a'.repeat(1e6)).number, 3);
   want('256 and 257 emoji', ['😀'.repeat(256), '😀'.repeat(257)].map((text) => sagebasket.check(text).number), [4, 3]);
+  const pasted = ['', '!'.repeat(1e6), '!' + 'a'.repeat(255), '!' + 'a'.repeat(256), 'う゛.jp', 'ｶﾞ.jp', 'a\ud800.jp', '😀'.repeat(256), '😀'.repeat(257)];
+  const answered = [[false, 0], [false, 0], [false, 1], [false, 0], [false, 2], [true, 5], [false, 2], [false, 1], [false, 0]];
+  want('pasted', pasted.map((text) => Object.values(sagebasket.acceptable(text))), answered);
   want('a lone surrogate in a line', sagebasket.line('a\tb\udc00.jp'), '-\t16\t0\t-\t-\t-');
   want('1,024 octets', sagebasket.line('a\t' + 'b'.repeat(1022)), 'a\t3\t256\t-\t-\t-');
   want('1,025 octets', sagebasket.line('a\t' + 'b'.repeat(1020) + 'あ'), '-\t16\t0\t-\t-\t-');
@@ -139,7 +145,7 @@ function compareOdd() {
 
 function compareMisuse() {
   for (const bad of [undefined, null, 1, {}, ['a'], new String('a.jp'), Symbol('a')]) {
-    for (const call of ['check', 'toAscii', 'mayBecome', 'hostToAscii', 'encode', 'decode', 'line']) {
+    for (const call of ['check', 'toAscii', 'mayBecome', 'acceptable', 'hostToAscii', 'encode', 'decode', 'line']) {
       tally.throws(`${call} of no string`, TypeError, () => sagebasket[call](bad));
     }
     tally.throws('type of no string', TypeError, () => sagebasket.live().type(bad));

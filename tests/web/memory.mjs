@@ -80,8 +80,18 @@ function lives(tally, exports, stack, text, edition) {
   tally.want(`fresh by ${edition}`, strayed(exports, stack, [open], (s) => exports.sagebasket_live_fresh(edition, s)).stray, 0);
 }
 
+function searches(tally, exports, stack) {
+  for (const text of ['', 'abc.jp', 'う゛.jp', '!' + 'a'.repeat(255), 'a'.repeat(257)]) {
+    const points = pointsOf(text);
+    const lent = { size: 1028, octets: octetsOf(points), fixed: true };
+    const { stray } = strayed(exports, stack, [lent, { size: 4 }], (t, read) => exports.sagebasket_acceptable(t, BigInt(points.length), read));
+    tally.want(`the search box on ${text.slice(0, 20)}`, stray, 0);
+  }
+}
+
 export function lentMemory(tally, exports, stack) {
   coders(tally, exports, stack);
+  searches(tally, exports, stack);
   const texts = [
     '', 'abc.jp', 'あ.tokyo.jp', 'う゛.jp', 'a.b.あ', 'あ'.repeat(15) + '.jp', 'a'.repeat(256), 'a'.repeat(257),
     Array(127).fill('a').join('.'), 'ｶﾞ'.repeat(128),

@@ -1,7 +1,7 @@
 // What sagebasket.d.ts says: this file must be taken by the compiler as it is, and each line below a @ts-expect-error must not be.
 // usage: tsc --noEmit --strict --target es2022 --module node16 tests/web/types.mts        (Debian: node-typescript)
 import { load, EDITION_IN_FORCE } from '../../web/sagebasket.js';
-import type { Answer, AsciiAnswer, Kinds, Live, NameAnswer, Sagebasket } from '../../web/sagebasket.js';
+import type { Answer, AsciiAnswer, Kinds, Live, NameAnswer, Sagebasket, Searched } from '../../web/sagebasket.js';
 
 export async function use(): Promise<void> {
   const sagebasket: Sagebasket = await load();
@@ -22,7 +22,9 @@ export async function use(): Promise<void> {
   const texts: string[] = [live.look(), live.lookHost(), live.toAscii(), live.hostToAscii()].map((answer: Answer) => answer.text);
   const coded: Answer[] = [sagebasket.encode('あ'), sagebasket.decode('xn--l8j')];
   const known: boolean = sagebasket.isEdition(4);
-  console.log(start, kinds, host, hope, line, texts, coded, known);
+  const searched: Searched = sagebasket.acceptable('abc.jp');
+  const read: number = searched.yes ? searched.read : 0;
+  console.log(start, kinds, host, hope, line, texts, coded, known, read);
 
   // @ts-expect-error: a check tells no kinds
   name.kinds;
@@ -38,6 +40,8 @@ export async function use(): Promise<void> {
   sagebasket.check('abc.jp', '4');
   // @ts-expect-error: hosts stay with the edition in force
   sagebasket.hostToAscii('a.b.c', 3);
+  // @ts-expect-error: and so does the search box
+  sagebasket.acceptable('abc.jp', 3);
   // @ts-expect-error: a number is no source
   await load(4);
   // @ts-expect-error: it stays as it is

@@ -72,8 +72,8 @@ module _ (f : ℕ → Bool) where
           let back : b + 0x60 - 0x60 ≡ b = omega arith in
           rw back at (entry (b + 0x60) h .1)
 
-  -- a test that every pair's one character passes, by computation, and 0
-  of-composed : (b m : ℕ) → f 0 ≡ true → f 0x30F4 ≡ true → moved f 1 voiced ≡ true → allOf (λ (k : ℕ). f (k + 1)) repeats ≡ true
+  -- a test that every pair's one character passes, by computation, and 0 passes
+  pub of-composed : (b m : ℕ) → f 0 ≡ true → f 0x30F4 ≡ true → moved f 1 voiced ≡ true → allOf (λ (k : ℕ). f (k + 1)) repeats ≡ true
       → moved f 2 halfVoiced ≡ true → f (composed b m) ≡ true
   unfolding composed
   of-composed b m z u v r h = mark (eqb m 0x309B) (eqb m 0x309C)

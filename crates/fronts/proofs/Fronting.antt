@@ -58,7 +58,7 @@ module _ {text before after : List ℕ} {n : Normal} (N : Normalises text before
     size-is : n .length ≡ length (normalForm text)
     size-is = length-is ∙ ap length (writes-is text (length before) zero-is)
 
-    form-is : take (n .length - 0) (drop 0 after) ≡ normalForm text
+    pub form-is : take (n .length - 0) (drop 0 after) ≡ normalForm text
     form-is = rw (length-is, N .buffer) (at-start (writes text (length before)) before) ∙ writes-is text (length before) zero-is
 
 -- ---- what the code answers

@@ -82,7 +82,8 @@ pub fn in_label_with(kanji: &[u32], edition: u32, c: u32) -> bool
     is_japanese(kind_with(kanji, edition, c))
 }
 
-fn is_unfit(kanji: &[u32], edition: u32, c: u32) -> bool
+// Neither period nor what a label may hold?
+pub fn is_unfit_with(kanji: &[u32], edition: u32, c: u32) -> bool
     ensures { λ r. ⌜ r ≡ unfit (editionWith (now (kanji .entry)) edition) c ⌝ }
 {
     if c == PERIOD {
@@ -98,7 +99,7 @@ pub fn first_unfit_with(kanji: &[u32], edition: u32, form: &[u32]) -> usize
 {
     let mut i = 0;
     while i < form.len() {
-        if is_unfit(kanji, edition, form[i]) {
+        if is_unfit_with(kanji, edition, form[i]) {
             return i;
         }
         i += 1;

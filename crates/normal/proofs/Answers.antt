@@ -42,7 +42,7 @@ module _ (text before : List ℕ) where
           refused (refusal 3 256)
           (passed-over 1 _ 0 _ (le-ltb _ _ h) ∙ passed-over 2 _ 0 _ (ne-eqb _ _ n) ∙ hit 3 _ 256 _ (lt-ltb _ _ l)) refl
 
-      no-refusal : length text ≤ 256 → answer text (length before) ≡ accepted
+      pub no-refusal : length text ≤ 256 → answer text (length before) ≡ accepted
       unfolding answer rows
       no-refusal l = clear (rows text (length before)) (le-ltb _ _ h, (ne-eqb _ _ n, (le-ltb _ _ l, tt)))
 

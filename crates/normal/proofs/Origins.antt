@@ -95,6 +95,9 @@ pub data Came (x : ℕ) : ℕ → Type 0 where
   alone : Came x x
   joined : (m : ℕ) → (composed x m ≡ 0 → ⊥) → Came x (composed x m)
 
+zero-and : (j : ℕ) → 0 + j ≡ j
+zero-and j = omega arith
+
 module _ (t : List ℕ) (k : ℕ) where
   code-at : getD (normalForm t) k 0 ≡ getD (normalPlaced t) k (placed 0 0) .code
   unfolding normalForm
@@ -115,11 +118,15 @@ module _ (t : List ℕ) (k : ℕ) where
       R : Placed → Type 0
       R p = Came (replace (getD t (p .began) 0)) (p .code)
 
-      zero-and : (j : ℕ) → 0 + j ≡ j
-      zero-and j = omega arith
-
-  pub began-inside : getD (places t) k 0 ≤ length t
-  began-inside = rw began-at (entry Q Q (λ p q. q) (λ b m q n. q) t (λ j l. omega arith) k (λ l. omega arith))
+  -- what holds of every index of the text holds of the place where the character began; of 0 where there is no such one
+  began : (R : ℕ → Type 0) → ((j : ℕ) → j < length t → R j) → (length (normalForm t) ≤ k → R 0) → R (getD (places t) k 0)
+  began R each past = rw began-at (entry Q Q (λ p q. q) (λ b m q n. q) t (λ j l. rw (zero-and j) (each j l)) k past)
     where
       Q : Placed → Type 0
-      Q p = p .began ≤ length t
+      Q p = R (p .began)
+
+  pub began-inside : getD (places t) k 0 ≤ length t
+  began-inside = began (λ (i : ℕ). i ≤ length t) (λ j l. omega arith) (λ h. omega arith)
+
+  pub began-before : k < length (normalForm t) → getD (places t) k 0 < length t
+  began-before h = began (λ (i : ℕ). i < length t) (λ j l. l) (λ g. absurd (omega arith))

@@ -28,7 +28,7 @@ module _ (b m : Placed) (rest : List Placed) where
   joins e = simp (ne-eqb _ _ e)
 
 -- what is no base stays, whatever follows
-baseless : (b : Placed) (rest : List Placed) → ((m : ℕ) → composed (b .code) m ≡ 0) → compose (b ∷ rest) ≡ b ∷ compose rest
+pub baseless : (b : Placed) (rest : List Placed) → ((m : ℕ) → composed (b .code) m ≡ 0) → compose (b ∷ rest) ≡ b ∷ compose rest
 unfolding compose
 baseless b [] n = refl
 baseless b (m ∷ rest) n = stays b m rest (n (m .code))
@@ -132,7 +132,7 @@ module _ {text out₀ out : List ℕ} {last n i : ℕ} (k : Kept text out₀ out
 
 -- ---- the walk that looks for the k-th place
 
-abbrev begun : List Placed → List ℕ
+abbrev pub begun : List Placed → List ℕ
 begun ps = map (λ (p : Placed). p .began) ps
 
 pub record Walked (text : List ℕ) (k last start n i : ℕ) : Type 0 where

@@ -120,6 +120,7 @@ fn on_name(
         b'C' | b'c' => named::check(kanji, edition, own, text, room, out, o),
         b'J' | b'j' => named::judge(kanji, edition, own, text, out, o),
         b'L' | b'l' => streams::live_check(kanji, edition, own, text, out, o),
+        b'Z' | b'z' => named::acceptable(kanji, own, text, out, o),
         _ => named::reads(kanji, own, text, out, o),
     }
 }
@@ -168,8 +169,12 @@ fn call(
     requires { ⌜ length (now numbers) ≤ 2000 ⌝ }
 {
     match call {
-        b'A' | b'C' | b'J' | b'L' | b'S' => on_name(kanji, edition, call, numbers, room, out, o),
-        b'a' | b'c' | b'j' | b'l' | b's' => on_name(kanji, edition, call, numbers, room, out, o),
+        b'A' | b'C' | b'J' | b'L' | b'S' | b'Z' => {
+            on_name(kanji, edition, call, numbers, room, out, o)
+        }
+        b'a' | b'c' | b'j' | b'l' | b's' | b'z' => {
+            on_name(kanji, edition, call, numbers, room, out, o)
+        }
         b'G' | b'H' | b'V' => on_host(kanji, edition, call, numbers, room, out, o),
         b'g' | b'h' | b'v' => on_host(kanji, edition, call, numbers, room, out, o),
         b'B' | b'D' | b'F' | b'U' | b'W' => on_octets(kanji, edition, call, numbers, room, out, o),

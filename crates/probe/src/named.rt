@@ -80,6 +80,25 @@ pub(crate) fn reads(kanji: &[u32], own: bool, label: &[u32], out: &mut [u8], o: 
     printed::put_flag(out, o, readers::reads_with(kanji, label))
 }
 
+fn searched(kanji: &[u32], own: bool, text: &[u32]) -> searches::Searched {
+    if own {
+        return searches::acceptable(text);
+    }
+    searches::acceptable_with(kanji, text)
+}
+
+// Z, z: yes or no for the search box, which stays with the edition in force.
+pub(crate) fn acceptable(
+    kanji: &[u32],
+    own: bool,
+    text: &[u32],
+    out: &mut [u8],
+    o: usize,
+) -> usize {
+    let r = searched(kanji, own, text);
+    printed::put_counted(out, o, r.yes, r.read)
+}
+
 fn judged(kanji: &[u32], edition: u32, own: bool, text: &[u32]) -> names::Judged {
     if own {
         return names::judge(edition, text);

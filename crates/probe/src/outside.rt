@@ -204,6 +204,15 @@ fn hope(edition: u32, text: &[u32], out: &mut [u8], o: usize) -> usize {
     printed::put_hex(out, o, n)
 }
 
+// What is returned, and what is put where one number is lent.
+fn acceptable(text: &[u32], out: &mut [u8], o: usize) -> usize {
+    let mut read: u32 = 0xAAAAAAAA;
+    let n = sagebasket::naming::sagebasket_acceptable(text, &mut read);
+    let p = printed::put_hex(out, o, n);
+    let q = printed::put_byte(out, p, b' ');
+    printed::put_hex(out, q, read)
+}
+
 fn live_hope(edition: u32, text: &[u32], out: &mut [u8], o: usize) -> usize {
     let state = typed(edition, text);
     let n = sagebasket::typing::sagebasket_live_may_become(&state);
@@ -236,6 +245,7 @@ pub(crate) fn on_points(
         9 => live_host(edition, text, out, o),
         10 => state(edition, text, out, o),
         11 => is_edition(edition, out, o),
+        12 => acceptable(text, out, o),
         _ => printed::put_byte(out, o, b'?'),
     }
 }

@@ -20,6 +20,7 @@ use Rattle.hosts.specs.declared.HostForm.{HostForm}
 use Rattle.hosts.specs.declared.HostJudged.{HostJudged}
 use Rattle.punycode.specs.declared.Decoded.{Decoded}
 use Rattle.punycode.specs.declared.Encoded.{Encoded}
+use Rattle.searches.specs.declared.Searched.{Searched}
 use Rattle.live.specs.Live.{lookedBy}
 use Rattle.live.specs.declared.Live.{Live}
 use Rattle.unicode.specs.Utf8.{decoded}
@@ -85,6 +86,11 @@ pub data OfUtf8 (octets : List ℕ) (Says : List ℕ → Type 0) (before after a
   read : decoded octets .ok ≡ true → Says (decoded octets .codes) → OfUtf8 octets Says before after answer n
   left : decoded octets .ok ≡ false → answer ≡ unnamed 16 0 0 → n ≡ 16 → after ≡ before →
       OfUtf8 octets Says before after answer n
+
+-- yes or no is returned, and the count stands where one number is lent
+pub record Counts (s : Searched) (read n : ℕ) : Type 0 where
+  pub said : n ≡ flag (s .yes)
+  pub count : read ≡ s .read
 
 -- ---- the live check
 

@@ -8,7 +8,8 @@ ghost use Rattle.rules.specs.Editions.{isEdition, editionOf, today};
 ghost use Rattle.rules.specs.Hopeful.{hopeful};
 ghost use Rattle.names.specs.Calls.{Checks, AsciiForms};
 ghost use Rattle.hosts.specs.Hosts.{HostForms};
-ghost use Rattle.sagebasket.specs.Outside.{flag, ofChecked, ofAsciiForm, ofHostForm, Tells};
+ghost use Rattle.searches.specs.Searches.{searched};
+ghost use Rattle.sagebasket.specs.Outside.{flag, ofChecked, ofAsciiForm, ofHostForm, Tells, Counts};
 
 // Is there an edition of this number? 1 for yes, 0 for no.
 #[no_mangle]
@@ -50,6 +51,16 @@ pub extern "C" fn sagebasket_may_become(edition: u32, text: &[u32]) -> u32
     ensures { λ r. ⌜ r ≡ flag (hopeful (editionOf edition) (now (text .entry))) ⌝ }
 {
     yes(hopes::may_become(edition, text))
+}
+
+// Is the text acceptable, by the edition in force? 1 for yes, 0 for no. How many code points were read is put where one number is lent.
+#[no_mangle]
+pub extern "C" fn sagebasket_acceptable(text: &[u32], read: &mut u32) -> u32
+    ensures { λ r. ⌜ Counts (searched today (now (text .entry))) (now (read .exit)) r ⌝ }
+{
+    let said = searches::acceptable(text);
+    *read = said.read as u32;
+    yes(said.yes)
 }
 
 // The ASCII form of a nameserver's host name: with 0 it is written.

@@ -21,6 +21,7 @@ pub mod pairs;
 pub mod places;
 pub mod random;
 pub mod scripts;
+pub mod search;
 pub mod tried;
 
 use crate::normal::{labels, normal_form};
@@ -135,7 +136,7 @@ impl CaseFile {
 
 /// The malformed lines of the case file, in their order.
 pub fn malformed_lines() -> Vec<String> {
-    [editions::malformed_lines(), outside::malformed_lines()].concat()
+    [editions::malformed_lines(), outside::malformed_lines(), search::malformed_lines()].concat()
 }
 
 /// The case file without its malformed lines.
@@ -167,5 +168,6 @@ pub fn all_lines() -> Vec<String> {
     places::add(&mut file);
     editions::add(&mut file);
     outside::add(&mut file);
+    search::add(&mut file);
     file.into_lines()
 }

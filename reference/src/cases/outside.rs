@@ -184,7 +184,7 @@ fn lines(file: &mut CaseFile) {
 
 /// Lines whose number is no call, in their order.
 pub fn malformed_lines() -> Vec<String> {
-    let points = [12, 13, 255, 256, 300].map(|call| probe_line('O', call, &[0x61]));
+    let points = [13, 14, 255, 256, 300].map(|call| probe_line('O', call, &[0x61]));
     let octets = [5, 6, 256].map(|call| probe_line('Y', call, &[0x61]));
     points.into_iter().chain(octets).collect()
 }

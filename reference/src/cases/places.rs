@@ -33,7 +33,7 @@ const STEADY: [&str; 8] = [
 
 /// Refused names of two labels and of three, from 4 on in the order of the checks.
 /// 12 has three labels only; 5 has others, and 9 stands further down.
-const REFUSED: [&str; 24] = [
+pub const REFUSED: [&str; 24] = [
     "\u{FF76}\u{FF9E}\u{FF9F}.jp", "\u{FF76}\u{FF9E}.tokyo .jp", "fax.jp\u{309B}", ".\u{FF4A}\u{FF50}",
     "fax.", "fax..jp", "\u{FF76}\u{FF9E}.tokyo.", "-fax.jp", "\u{FF76}\u{FF9E}\u{2212}.tokyo.jp", "fa.JP",
     "fa.\u{6771}\u{4EAC}.jp", "fa--x.jp", "fa--x.osaka.jp", "\u{FF65}\u{FF70}.jp",
@@ -43,7 +43,7 @@ const REFUSED: [&str; 24] = [
 ];
 
 /// One label, and four or more.
-const NOT_TWO_OR_THREE: [&str; 8] = [
+pub const NOT_TWO_OR_THREE: [&str; 8] = [
     "fax",
     "\u{FF76}\u{FF9E}",
     "jp",

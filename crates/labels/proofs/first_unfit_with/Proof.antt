@@ -21,17 +21,17 @@ abbrev μ-loop : tie.MeasureT-loop
 loop-holds : tie.Need-loop-holds Inv-loop μ-loop
 loop-holds c = search needs
 
-mul-is-unfit : tie.Need-mul-is-unfit Inv-loop μ-loop
-mul-is-unfit c = search needs
+mul-is-unfit-with : tie.Need-mul-is-unfit-with Inv-loop μ-loop
+mul-is-unfit-with c = search needs
 
-shared-slice-read-is-unfit : tie.Need-shared-slice-read-is-unfit Inv-loop μ-loop
-shared-slice-read-is-unfit c = search needs
+shared-slice-read-is-unfit-with : tie.Need-shared-slice-read-is-unfit-with Inv-loop μ-loop
+shared-slice-read-is-unfit-with c = search needs
 
-is-unfit-requires : tie.Need-is-unfit-requires Inv-loop μ-loop
-is-unfit-requires c κs = search needs
+is-unfit-with-requires : tie.Need-is-unfit-with-requires Inv-loop μ-loop
+is-unfit-with-requires c κs = search needs
 
 returns : tie.Need-returns Inv-loop μ-loop
-returns c = first-here _ _ _ (omega arith) _ (c .before .before .before .before .loop .inv) (c .before .is-unfit .ensures) (c .if1 .taken)
+returns c = first-here _ _ _ (omega arith) _ (c .before .before .before .before .loop .inv) (c .before .is-unfit-with .ensures) (c .if1 .taken)
 
 add-i : tie.Need-add-i Inv-loop μ-loop
 add-i c = search needs
@@ -40,7 +40,7 @@ loop-less : tie.Need-loop-less Inv-loop μ-loop
 loop-less c = search needs
 
 loop-again : tie.Need-loop-again Inv-loop μ-loop
-loop-again c = first-on _ _ _ (omega arith) _ (c .before .before .before .before .loop .inv) (c .before .is-unfit .ensures) (c .if1 .left)
+loop-again c = first-on _ _ _ (omega arith) _ (c .before .before .before .before .loop .inv) (c .before .is-unfit-with .ensures) (c .if1 .left)
 
 returns-2 : tie.Need-returns-2 Inv-loop μ-loop
 returns-2 c = first-end _ _ (c .before .loop .i) _ (omega arith) (c .before .loop .inv)
@@ -48,5 +48,5 @@ returns-2 c = first-end _ _ (c .before .loop .i) _ (omega arith) (c .before .loo
 pub first-unfit-with-spec : {M : Type 1} → statement M
 first-unfit-with-spec =
     tie.close
-    (tie.spec Inv-loop μ-loop loop-holds mul-is-unfit shared-slice-read-is-unfit is-unfit-requires returns add-i
+    (tie.spec Inv-loop μ-loop loop-holds mul-is-unfit-with shared-slice-read-is-unfit-with is-unfit-with-requires returns add-i
     loop-less loop-again returns-2)

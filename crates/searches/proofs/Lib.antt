@@ -1,0 +1,4 @@
+pub mod Walking
+pub mod Searching
+pub mod Checking
+pub mod Unread
