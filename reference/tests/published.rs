@@ -234,6 +234,10 @@ fn probe_lines_are_answered_in_the_fixed_format() {
         ("W 256", "1 13 2d 9 31 36 9 30 9 2d 9 2d 9 2d a"),
         ("W 256 6b 9 e4 ba 9c 2e 6a 70", "1 21 6b 9 30 9 30 9 47 9 78 6e 2d 2d 6c 6c 71 2e 6a 70 9 4a a"),
         ("W 255", "0 0"),
+        ("Z 0 41 42 43 2e 4a 50", "1 6"),
+        ("z 0 3046 309b 2e 6a 70", "0 2"),
+        ("Z 0", "0 0"),
+        ("O 12 61 61 61 61 61 61 61 61 61 61", "0 a"),
         ("B 0", ""),
         ("B 0 a", "2d 9 31 36 9 30 9 2d 9 2d 9 2d a"),
         ("B 0 6b 9 61 62 2e 6a 70", "6b 9 38 9 30 9 2d 9 2d 9 2d a"),
@@ -245,7 +249,7 @@ fn probe_lines_are_answered_in_the_fixed_format() {
 
 #[test]
 fn malformed_probe_lines_are_answered_by_a_question_mark() {
-    let lines = "Z 0|x 0|r 256|H 301 61|n 256|b 0|N||N 301|P 301|N 256 GG|D 63 100|U 9 100|F 0 100|W 256 100|Q 0|Q 0 0 0 0 3 0|N 256 061|N 256  61|N 256 1aaaaaaaa|N 256 61 |N +1|N 256 +61";
+    let lines = "k 0|x 0|r 256|H 301 61|n 256|b 0|N||N 301|P 301|N 256 GG|D 63 100|U 9 100|F 0 100|W 256 100|Q 0|Q 0 0 0 0 3 0|N 256 061|N 256  61|N 256 1aaaaaaaa|N 256 61 |N +1|N 256 +61";
     for line in lines.split('|') {
         assert_eq!(probe::answer(line.as_bytes()), "?", "{line}");
     }
