@@ -2,15 +2,16 @@
 -- rules say. It reads nothing exactly where the length alone refuses, and never more than 256 code points.
 -- Assumes nothing.
 use mathlib.Core.Path.{_≡_, refl, sym, ap, _∙_}
-use mathlib.Core.Bool.{true}
+use mathlib.Core.Bool.{true, false}
 use mathlib.Core.List.{List}
-use mathlib.Core.Logic.{_⊎_, _↔_, inl, inr}
+use mathlib.Core.Logic.{_⊎_, _↔_, inl, inr, ⊎-elim}
 use Prim.Native.Nat.{ℕ, _≤_, _<_}
 use native.Mathlib.Omega.{arith}
 use lib.Dec.{eqb}
 use lib.ListN.{length}
 use borrow.Author.Tests.{eqb-true, eq-eqb}
 use Rattle.lists.specs.Tests.{within}
+use Rattle.lists.proofs.Laws.{clash, inside, in-range, lt-or-le}
 use Rattle.characters.specs.KanjiBits.{kanjiBits}
 use Rattle.rules.specs.Permits.{Permits}
 use Rattle.rules.specs.Rules.{rules}
@@ -52,18 +53,19 @@ module _ (P : Permits) (there-is : P .known ≡ true) (text : List ℕ) where
   pub lengths : Lengths (searched P text)
   lengths = by-way (way P text there-is)
     where
+      over : within 1 256 (length text) ≡ true → (length text ≡ 0) ⊎ (256 < length text) → ⊥
+      over r (inl z) = omega (arith, in-range 1 256 (length text) r .0)
+      over r (inr z) = omega (arith, in-range 1 256 (length text) r .1)
+
+      refused : within 1 256 (length text) ≡ false → (length text ≡ 0) ⊎ (256 < length text)
+      refused e =
+          ⊎-elim (λ h. inr h) (λ h. ⊎-elim (λ l. inl (omega arith)) (λ l. clash (inside 1 256 (length text) l h) e) (lt-or-le (length text) 1))
+          (lt-or-le 256 (length text))
+
       by-way : {r : Searched} → Ways P text there-is r → Lengths r
-      by-way (unread h) = ((λ e. h, λ e. refl), omega arith, omega arith)
-      by-way (stop few h) = ((λ e. absurd (omega arith), λ e. absurd (over e)), omega arith, omega arith)
-        where
-          over : (length text ≡ 0) ⊎ (256 < length text) → ⊥
-          over (inl z) = omega arith
-          over (inr z) = omega arith
-      by-way (all some few y) = ((λ e. inl e, over), few, omega arith)
-        where
-          over : (length text ≡ 0) ⊎ (256 < length text) → length text ≡ 0
-          over (inl z) = z
-          over (inr z) = absurd (omega arith)
+      by-way (unread e) = ((λ z. refused e, λ z. refl), omega arith, omega arith)
+      by-way (stop r h) = ((λ z. absurd (omega arith), λ z. absurd (over r z)), omega (arith, in-range 1 256 (length text) r .1), omega arith)
+      by-way (all r y) = ((λ z. inl z, λ z. absurd (over r z)), in-range 1 256 (length text) r .1, omega arith)
 
 -- ---- at the edition in force
 

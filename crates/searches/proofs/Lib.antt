@@ -1,4 +1,5 @@
 pub mod Walking
+pub mod Tableless
 pub mod Searching
 pub mod Checking
 pub mod Unread

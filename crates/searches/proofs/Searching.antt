@@ -4,7 +4,7 @@
 use mathlib.Core.Path.{_≡_, refl, sym, ap, _∙_}
 use mathlib.Core.Bool.{Bool, true, false, not, _||_}
 use mathlib.Core.List.{List}
-use mathlib.Core.Logic.{_⊎_, inl, inr, ⊎-elim}
+use mathlib.Core.Logic.{⊎-elim}
 use Prim.Native.Nat.{ℕ, _+_, _-_, _≤_, _<_}
 use native.Mathlib.Omega.{arith}
 use lib.Dec.{eqb}
@@ -12,7 +12,8 @@ use lib.ListN.{length, take, drop, getD}
 use borrow.Author.Tests.{eqb-true, eqb-false, not-true}
 use Rattle.lists.specs.Tests.{pick, within, allOf, anyOf, indexOf}
 use Rattle.lists.specs.declared.Answer.{Answer}
-use Rattle.lists.proofs.Laws.{by-test, lt-or-le, neither}
+use Rattle.lists.proofs.Laws as Laws
+use Rattle.lists.proofs.Laws.{by-test, lt-or-le, neither, clash, in-range}
 use Rattle.lists.proofs.Scan.{found-inside}
 use Rattle.lists.proofs.Tables.{of-rows}
 use Rattle.normal.specs.Normal.{normalForm, places}
@@ -50,7 +51,7 @@ read-all-by v n e =
 
 -- a text of 1 to 256 code points has its normal form written, and its labels are asked
 module _ {text before after : List ℕ} {n : Normal} (N : Normalises text before after n) (room : 256 ≤ length before)
-    (few : (0 < length text) × (length text ≤ 256)) where
+    (few : (1 ≤ length text) × (length text ≤ 256)) where
   form-there : take (n .length - 0) (drop 0 after) ≡ normalForm text
   form-there =
       form-is N
@@ -86,47 +87,56 @@ module _ (P : Permits) (text : List ℕ) where
   is-fit h = by-test (λ b. some-unfit ≡ b → b ≡ false) some-unfit (λ p q. absurd (omega (arith, inside q))) (λ p q. refl) refl
 
   module _ (there-is : P .known ≡ true) where
-    pub no-text : length text ≡ 0 → said false 0 ≡ searched P text
+    no-text : length text ≡ 0 → said false 0 ≡ searched P text
     unfolding searched searchedBy readBy
     no-text e = rw (text-front P text (front-2 P text e) there-is (λ z. omega arith))
 
-    module _ (some : length text ≡ 0 → ⊥) where
-      pub too-long : 256 < length text → said false 0 ≡ searched P text
-      unfolding searched searchedBy readBy
-      too-long h = rw (text-front P text (front-3 P text some h) there-is (λ z. omega arith))
+    too-long : (length text ≡ 0 → ⊥) → 256 < length text → said false 0 ≡ searched P text
+    unfolding searched searchedBy readBy
+    too-long some h = rw (text-front P text (front-3 P text some h) there-is (λ z. omega arith))
 
-      module _ (few : length text ≤ 256) {s : ℕ} (e : s ≡ stopsAt P text) where
-        pub stopped : s < length text → said false (s + 1) ≡ searched P text
-        unfolding searched searchedBy readBy stopsAt
-        stopped h =
-            let u = is-unfit (omega (arith, e)) in
-            rw (text-front P text (front-4 P text some few u) there-is (λ z. omega arith), e, u)
+    -- as the code asks the length
+    pub unread-so : within 1 256 (length text) ≡ false → said false 0 ≡ searched P text
+    unread-so e =
+        by-test (λ b. eqb (length text) 0 ≡ b → said false 0 ≡ searched P text) (eqb (length text) 0) (λ p z. no-text (eqb-true (length text) 0 z))
+        (λ p z.
+        let some = eqb-false (length text) 0 z in
+        ⊎-elim (too-long some) (λ h. clash (Laws.inside 1 256 (length text) (omega arith) h) e) (lt-or-le 256 (length text))) refl
 
-        pub read-all : length text ≤ s → {y : Bool} → y ≡ eqb (byLabels P (labels (normalForm text)) .number) 0
-            → said y (length text) ≡ searched P text
-        unfolding searched
-        read-all h q =
-            let v = byLabels P (labels (normalForm text)) in
-            let fit = is-fit (omega (arith, e)) in
-            ap (λ (b : Bool). said b (length text)) q ∙ sym (read-all-by v (length text) (labels-late P (labels (normalForm text))))
-            ∙ ap (λ (w : Verdict). searchedBy w (length text)) (sym (text-on P text (front-0 P text some few fit) there-is refl))
+    module _ (r : within 1 256 (length text) ≡ true) {s : ℕ} (e : s ≡ stopsAt P text) where
+      some : length text ≡ 0 → ⊥
+      some z = omega (arith, in-range 1 256 (length text) r .0)
+
+      few : length text ≤ 256
+      few = in-range 1 256 (length text) r .1
+
+      pub stopped : s < length text → said false (s + 1) ≡ searched P text
+      unfolding searched searchedBy readBy stopsAt
+      stopped h =
+          let u = is-unfit (omega (arith, e)) in
+          rw (text-front P text (front-4 P text some few u) there-is (λ z. omega arith), e, u)
+
+      pub read-all : length text ≤ s → {y : Bool} → y ≡ eqb (byLabels P (labels (normalForm text)) .number) 0 → said y (length text) ≡ searched P text
+      unfolding searched
+      read-all h q =
+          let v = byLabels P (labels (normalForm text)) in
+          let fit = is-fit (omega (arith, e)) in
+          ap (λ (b : Bool). said b (length text)) q ∙ sym (read-all-by v (length text) (labels-late P (labels (normalForm text))))
+          ∙ ap (λ (w : Verdict). searchedBy w (length text)) (sym (text-on P text (front-0 P text some few fit) there-is refl))
 
     -- ---- the three ways
 
     pub data Ways : Searched → Type 0 where
-      unread : (length text ≡ 0) ⊎ (256 < length text) → Ways (said false 0)
-      stop : length text ≤ 256 → stopsAt P text < length text → Ways (said false (stopsAt P text + 1))
-      all : 1 ≤ length text → length text ≤ 256 → (y : Bool) → Ways (said y (length text))
+      unread : within 1 256 (length text) ≡ false → Ways (said false 0)
+      stop : within 1 256 (length text) ≡ true → stopsAt P text < length text → Ways (said false (stopsAt P text + 1))
+      all : within 1 256 (length text) ≡ true → (y : Bool) → Ways (said y (length text))
 
     pub way : Ways (searched P text)
     way =
-        by-test (λ b. eqb (length text) 0 ≡ b → Ways (searched P text)) (eqb (length text) 0)
-        (λ p e. let z = eqb-true (length text) 0 e in rw (← no-text z) (unread (inl z))) (λ p e. some (eqb-false (length text) 0 e)) refl
+        by-test (λ b. within 1 256 (length text) ≡ b → Ways (searched P text)) (within 1 256 (length text)) (λ p r. read r)
+        (λ p r. rw (← unread-so r) (unread r)) refl
       where
-        some : (length text ≡ 0 → ⊥) → Ways (searched P text)
-        some n = ⊎-elim (λ h. rw (← too-long n h) (unread (inr h))) few (lt-or-le 256 (length text))
-          where
-            few : length text ≤ 256 → Ways (searched P text)
-            few g =
-                ⊎-elim (λ h. rw (← stopped n g refl h) (stop g h)) (λ h. rw (← read-all n g refl h refl) (all (omega arith) g _))
-                (lt-or-le (stopsAt P text) (length text))
+        read : within 1 256 (length text) ≡ true → Ways (searched P text)
+        read r =
+            ⊎-elim (λ h. rw (← stopped r refl h) (stop r h)) (λ h. rw (← read-all r refl h refl) (all r _))
+            (lt-or-le (stopsAt P text) (length text))

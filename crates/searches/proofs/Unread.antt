@@ -4,7 +4,6 @@
 use mathlib.Core.Path.{_≡_, refl, sym, ap, _∙_}
 use mathlib.Core.Bool.{Bool, true, false}
 use mathlib.Core.List.{List, [], _∷_}
-use mathlib.Core.Logic.{_⊎_, inl, inr}
 use Prim.Native.Nat.{ℕ, zero, suc, _+_, _≤_, _<_}
 use native.Mathlib.Omega.{arith}
 use lib.Dec.{eqb}
@@ -21,30 +20,16 @@ use Rattle.rules.specs.Rules.{unfit}
 use Rattle.rules.specs.Editions.{today}
 use Rattle.rules.proofs.Editions.{lending}
 use Rattle.searches.specs.Searches.{searched}
-use Rattle.searches.specs.Steps.{stopsAt}
+use Rattle.searches.specs.Steps.{stopsAt, stopFrom}
 use Rattle.searches.specs.declared.Searched.{Searched}
-use Rattle.searches.proofs.Walking.{Joins, lent-joins, walk, stops-is}
-use Rattle.searches.proofs.Searching.{said, no-text, too-long, stopped, Ways, unread, stop, all, way}
+use Rattle.searches.proofs.Walking.{Joins, lent-joins, forward, stops-is}
+use Rattle.searches.proofs.Searching.{said, unread-so, stopped, Ways, unread, stop, all, way}
 use Rattle.searches.proofs.Checking.{there-is-today}
 
 module _ (P : Permits) where
-  -- the walk goes forward
-  forward : (last i : ℕ) (cs : List ℕ) → i ≤ walk P last i cs
-  unfolding walk
-  forward last i [] = omega arith
-  forward last i (c ∷ cs) =
-      go (eqb (composed last (replace c)) 0) (unfit P (replace c)) (forward (replace c) (suc i) cs)
-      (forward (composed last (replace c)) (suc i) cs)
-    where
-      go : (z b : Bool) → suc i ≤ walk P (replace c) (suc i) cs → suc i ≤ walk P (composed last (replace c)) (suc i) cs
-          → i ≤ pick z (pick b i (walk P (replace c) (suc i) cs)) (walk P (composed last (replace c)) (suc i) cs)
-      go true true g h = omega arith
-      go true false g h = omega arith
-      go false b g h = omega arith
-
   -- a walk that stops k code points on stops there too in what begins with the same k + 1
-  same-stop : (last i k : ℕ) (t u : List ℕ) → k < length t → take (suc k) t ≡ take (suc k) u → walk P last i t ≡ i + k → walk P last i u ≡ i + k
-  unfolding walk
+  same-stop : (last i k : ℕ) (t u : List ℕ) → k < length t → take (suc k) t ≡ take (suc k) u → stopFrom P last i t ≡ i + k → stopFrom P last i u ≡ i + k
+  unfolding stopFrom
   same-stop last i k [] u h e s = absurd (omega arith)
   same-stop last i k (c ∷ cs) [] h e s = absurd (omega (arith, ap length e))
   same-stop last i k (c ∷ cs) (d ∷ ds) h e s =
@@ -54,15 +39,15 @@ module _ (P : Permits) where
       rw (← x) (go (eqb (composed last (replace c)) 0) (unfit P (replace c)) s (later (replace c) k h r) (later (composed last (replace c)) k h r))
     where
       -- k is not 0 where the walk goes on
-      on : ((l j : ℕ) → j < length cs → take (suc j) cs ≡ take (suc j) ds → walk P l (suc i) cs ≡ suc i + j → walk P l (suc i) ds ≡ suc i + j) → (l k : ℕ)
-          → k < suc (length cs) → take k cs ≡ take k ds → walk P l (suc i) cs ≡ i + k → walk P l (suc i) ds ≡ i + k
-      on same l zero h r s = absurd (omega (arith, forward l (suc i) cs))
+      on : ((l j : ℕ) → j < length cs → take (suc j) cs ≡ take (suc j) ds → stopFrom P l (suc i) cs ≡ suc i + j → stopFrom P l (suc i) ds ≡ suc i + j) → (l k : ℕ)
+          → k < suc (length cs) → take k cs ≡ take k ds → stopFrom P l (suc i) cs ≡ i + k → stopFrom P l (suc i) ds ≡ i + k
+      on same l zero h r s = absurd (omega (arith, forward P l (suc i) cs))
       on same l (suc k) h r s = same l k (omega arith) r (s ∙ omega arith) ∙ omega arith
 
-      go : (z b : Bool) → pick z (pick b i (walk P (replace c) (suc i) cs)) (walk P (composed last (replace c)) (suc i) cs) ≡ i + k
-          → (walk P (replace c) (suc i) cs ≡ i + k → walk P (replace c) (suc i) ds ≡ i + k)
-          → (walk P (composed last (replace c)) (suc i) cs ≡ i + k → walk P (composed last (replace c)) (suc i) ds ≡ i + k)
-          → pick z (pick b i (walk P (replace c) (suc i) ds)) (walk P (composed last (replace c)) (suc i) ds) ≡ i + k
+      go : (z b : Bool) → pick z (pick b i (stopFrom P (replace c) (suc i) cs)) (stopFrom P (composed last (replace c)) (suc i) cs) ≡ i + k
+          → (stopFrom P (replace c) (suc i) cs ≡ i + k → stopFrom P (replace c) (suc i) ds ≡ i + k)
+          → (stopFrom P (composed last (replace c)) (suc i) cs ≡ i + k → stopFrom P (composed last (replace c)) (suc i) ds ≡ i + k)
+          → pick z (pick b i (stopFrom P (replace c) (suc i) ds)) (stopFrom P (composed last (replace c)) (suc i) ds) ≡ i + k
       go true true s f g = s
       go true false s f g = f s
       go false b s f g = g s
@@ -78,12 +63,11 @@ module _ (P : Permits) where
     unread-alike e = by-way (way P t there-is) refl e
       where
         by-way : {r : Searched} → Ways P t there-is r → searched P t ≡ r → take (r .read) t ≡ take (r .read) u → searched P u ≡ r
-        by-way (unread (inl z)) q e = sym (no-text P u there-is (omega arith))
-        by-way (unread (inr z)) q e = sym (too-long P u there-is (λ n. omega arith) (omega arith))
-        by-way (stop few h) q e =
+        by-way (unread r) q e = sym (unread-so P u there-is (rw long at r))
+        by-way (stop r h) q e =
             let s = stops-alike h e in
-            sym (stopped P u there-is (λ n. omega arith) (omega arith) refl (omega (arith, s))) ∙ ap (λ (k : ℕ). said false (k + 1)) s
-        by-way (all some few y) q e =
+            sym (stopped P u there-is (rw long at r) refl (omega (arith, s))) ∙ ap (λ (k : ℕ). said false (k + 1)) s
+        by-way (all r y) q e =
             let same : t ≡ u = sym (take-all (length t) t (omega arith)) ∙ e ∙ take-all (length t) u (omega arith) in
             ap (searched P) (sym same) ∙ q
 

@@ -13,7 +13,7 @@ use lib.ListN.{length, drop, getD, drop-of-length-le}
 use lib.Seq.{drop-cons}
 use borrow.Author.Tests.{eqb-true, eqb-false, ne-eqb, eq-eqb, not-true}
 use Rattle.lists.specs.Tests.{pick, within, allOf, anyOf, indexOf, elem}
-use Rattle.lists.proofs.Laws.{by-test, clash, either}
+use Rattle.lists.proofs.Laws.{by-test, clash, either, differs}
 use Rattle.characters.specs.Characters.{alnum, hyphen, asciiSet, kinds, signs, signsIn, stretch, kindAmong, kindBy, anyKind, kanjiWith, kindWith}
 use Rattle.characters.specs.Replace.{replace}
 use Rattle.characters.specs.Compose.{voiced, repeats, halfVoiced, composed}
@@ -24,12 +24,13 @@ use Rattle.rules.specs.Labels.{period}
 use Rattle.rules.specs.Permits.{Permits, jaChar, labelChar}
 use Rattle.rules.specs.Rules.{unfit}
 use Rattle.rules.specs.Editions.{editionWith, todayWith}
-use Rattle.searches.specs.Steps.{stopsAt}
+use Rattle.searches.specs.Steps.{stopsAt, stopFrom}
 
--- what a mark joins is fit, and so is what comes of it
+-- what a mark joins is fit, and so is what comes of it; the mark is not
 pub record Joins (P : Permits) : Type 0 where
   pub bases : (b m : ℕ) → (composed b m ≡ 0 → ⊥) → unfit P b ≡ false
   pub ones : (b m : ℕ) → (composed b m ≡ 0 → ⊥) → unfit P (composed b m) ≡ false
+  pub marks : (b m : ℕ) → unfit P m ≡ false → composed b m ≡ 0
 
 -- by computed tests of the tables, whatever table of kanji is lent
 module _ (table : List ℕ) where
@@ -44,39 +45,47 @@ module _ (table : List ℕ) where
         not-true (unfit (todayWith table) (composed b m))
         (either (eqb (composed b m) 0) (fit (composed b m)) (Pairs.of-composed (λ (v : ℕ). eqb v 0 || fit v) b m refl refl refl refl refl)
         (λ e. absurd (n (eqb-true (composed b m) 0 e))) (λ e. e));
+    marks = λ b m e. Pairs.unmarked b m (differs fit 0x309B refl m (ap not e)) (differs fit 0x309C refl m (ap not e));
   }
 
 module _ (P : Permits) where
-  -- from the code point at i on, with these left; `last` stands before it
-  unfoldable pub walk : ℕ → ℕ → List ℕ → ℕ
-  walk last i [] = i
-  walk last i (c ∷ cs) =
-      let x = replace c in
-      let one = composed last x in
-      pick (eqb one 0) (pick (unfit P x) i (walk x (suc i) cs)) (walk one (suc i) cs)
-
   -- ---- a turn of the loop: x is what replaces the code point at i
 
   module _ (t : List ℕ) (last i : ℕ) where
-    module _ {x one : ℕ} (h : i < length t) (ex : x ≡ replace (getD t i 0)) (eo : one ≡ composed last x) where
-      peel : walk last i (drop i t)
-          ≡ pick (eqb one 0) (pick (unfit P x) i (walk x (i + 1) (drop (i + 1) t))) (walk one (i + 1) (drop (i + 1) t))
-      unfolding walk
-      peel = rw (eo, ex, add-one, drop-cons t i 0 h)
+    module _ {x : ℕ} (h : i < length t) (ex : x ≡ replace (getD t i 0)) {b : Bool} (e : b ≡ unfit P x) where
+      peel : {one : ℕ} → one ≡ composed last x → stopFrom P last i (drop i t)
+          ≡ pick (eqb one 0) (pick b i (stopFrom P x (i + 1) (drop (i + 1) t))) (stopFrom P one (i + 1) (drop (i + 1) t))
+      unfolding stopFrom
+      peel eo = rw (eo, e, ex, add-one, drop-cons t i 0 h)
 
-      pub walk-joins : (one ≡ 0 → ⊥) → walk last i (drop i t) ≡ walk one (i + 1) (drop (i + 1) t)
-      walk-joins n = peel ∙ rw (ne-eqb one 0 n)
+      -- what is fit is no mark
+      pub walk-on : Joins P → b ≡ false → stopFrom P last i (drop i t) ≡ stopFrom P x (i + 1) (drop (i + 1) t)
+      walk-on J u = peel refl ∙ rw (eq-eqb (composed last x) 0 (J .marks last x (sym e ∙ u)), u)
 
-      module _ (z : one ≡ 0) {b : Bool} (e : b ≡ unfit P x) where
-        pub walk-stops : b ≡ true → walk last i (drop i t) ≡ i
-        walk-stops u = peel ∙ rw (eq-eqb one 0 z, ← e, u)
+      module _ {one : ℕ} (eo : one ≡ composed last x) where
+        pub walk-joins : (one ≡ 0 → ⊥) → stopFrom P last i (drop i t) ≡ stopFrom P one (i + 1) (drop (i + 1) t)
+        walk-joins n = peel eo ∙ rw (ne-eqb one 0 n)
 
-        pub walk-on : b ≡ false → walk last i (drop i t) ≡ walk x (i + 1) (drop (i + 1) t)
-        walk-on u = peel ∙ rw (eq-eqb one 0 z, ← e, u)
+        pub walk-stops : b ≡ true → one ≡ 0 → stopFrom P last i (drop i t) ≡ i
+        walk-stops u z = peel eo ∙ rw (eq-eqb one 0 z, u)
 
-    pub walk-ends : length t ≤ i → walk last i (drop i t) ≡ i
-    unfolding walk
+    pub walk-ends : length t ≤ i → stopFrom P last i (drop i t) ≡ i
+    unfolding stopFrom
     walk-ends h = rw (drop-of-length-le t h)
+
+  -- the walk goes forward
+  pub forward : (last i : ℕ) (cs : List ℕ) → i ≤ stopFrom P last i cs
+  unfolding stopFrom
+  forward last i [] = omega arith
+  forward last i (c ∷ cs) =
+      go (eqb (composed last (replace c)) 0) (unfit P (replace c)) (forward (replace c) (suc i) cs)
+      (forward (composed last (replace c)) (suc i) cs)
+    where
+      go : (z b : Bool) → suc i ≤ stopFrom P (replace c) (suc i) cs → suc i ≤ stopFrom P (composed last (replace c)) (suc i) cs
+          → i ≤ pick z (pick b i (stopFrom P (replace c) (suc i) cs)) (stopFrom P (composed last (replace c)) (suc i) cs)
+      go true true g h = omega arith
+      go true false g h = omega arith
+      go false b g h = omega arith
 
   -- ---- the place of refusal 4, in a placed form
 
@@ -114,27 +123,27 @@ module _ (P : Permits) where
         (λ u. ap (stopIn n) (baseless (placed x i) rest (unfit-no-base x u)) ∙ rw u) on
 
     walked : (n last start i : ℕ) (cs : List ℕ) → n ≡ i + length cs → unfit P last ≡ false
-        → stopIn n (compose (placed last start ∷ replacedFrom i cs)) ≡ walk last i cs
-    unfolding stopIn compose replacedFrom walk
+        → stopIn n (compose (placed last start ∷ replacedFrom i cs)) ≡ stopFrom P last i cs
+    unfolding stopIn compose replacedFrom stopFrom
     walked n last start i [] e f = rw f (omega arith)
     walked n last start i (c ∷ cs) e f =
         let x = replace c in
         let one = composed last x in
         let rest = replacedFrom (suc i) cs in
         by-test
-        (λ b. stopIn n (pick b (placed last start ∷ compose (placed x i ∷ rest)) (placed one start ∷ compose rest)) ≡ pick b (pick (unfit P x) i (walk x (suc i) cs)) (walk one (suc i) cs))
+        (λ b. stopIn n (pick b (placed last start ∷ compose (placed x i ∷ rest)) (placed one start ∷ compose rest)) ≡ pick b (pick (unfit P x) i (stopFrom P x (suc i) cs)) (stopFrom P one (suc i) cs))
         (eqb one 0) (λ z. rw f (turn n x i rest (λ u. walked n x i (suc i) cs (omega arith) u)))
         (λ z.
         sym (ap (stopIn n) (baseless (placed one start) rest (Pairs.no-base last x)))
         ∙ walked n one start (suc i) cs (omega arith) (J .ones last x (eqb-false one 0 z)))
 
-    from-first : (t : List ℕ) → stopIn (length t) (normalPlaced t) ≡ walk 0 0 t
-    unfolding normalPlaced replacedFrom compose stopIn walk
+    from-first : (t : List ℕ) → stopIn (length t) (normalPlaced t) ≡ stopFrom P 0 0 t
+    unfolding normalPlaced replacedFrom compose stopIn stopFrom
     from-first [] = refl
     from-first (c ∷ cs) =
         turn (length (c ∷ cs)) (replace c) 0 (replacedFrom 1 cs) (λ u. walked (length (c ∷ cs)) (replace c) 0 1 cs (omega arith) u)
         ∙ rw (Pairs.low-no-base 0 (omega arith) (replace c))
 
-    pub stops-is : (text : List ℕ) → stopsAt P text ≡ walk 0 0 text
+    pub stops-is : (text : List ℕ) → stopsAt P text ≡ stopFrom P 0 0 text
     unfolding stopsAt normalForm places
     stops-is text = found-is (length text) (normalPlaced text) ∙ from-first text

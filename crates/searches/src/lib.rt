@@ -10,15 +10,16 @@ use normal::MOST;
 use normal::normal_form;
 use rules::IN_FORCE;
 ghost use mathlib.Core.Path.{_≡_};
-ghost use Prim.Native.Nat.{_≤_, _<_};
+ghost use mathlib.Core.Bool.{true};
 ghost use lib.Dec.{eqb};
-ghost use lib.ListN.{length};
+ghost use lib.ListN.{length, drop};
+ghost use Rattle.lists.specs.Tests.{within};
 ghost use Rattle.normal.specs.Normal.{normalForm};
 ghost use Rattle.rules.specs.Labels.{labels};
 ghost use Rattle.rules.specs.Rules.{byLabels};
 ghost use Rattle.rules.specs.Editions.{today, todayWith};
 ghost use Rattle.searches.specs.Searches.{searched};
-ghost use Rattle.searches.specs.Steps.{stopsAt};
+ghost use Rattle.searches.specs.Steps.{stopFrom, noKanjiAt, Stops};
 
 const ACCEPTED: u8 = 0;
 
@@ -28,25 +29,35 @@ pub struct Searched {
     pub read: usize,
 }
 
-// The index of the first code point that brings 4, or the length. `last` stands before it and may be joined by it, so a mark is no stop by
-// itself; 0, which is no base, stands before the first.
-fn first_stop(kanji: &[u32], text: &[u32]) -> usize
-    ensures { λ r. ⌜ r ≡ stopsAt (todayWith (now (kanji .entry))) (now (text .entry)) ⌝ }
+// Is a text of n code points read at all? Not where its length alone refuses it.
+fn is_read(n: usize) -> bool
+    ensures { λ r. ⌜ r ≡ within 1 256 n ⌝ }
+{
+    if n == 0 {
+        return false;
+    }
+    n <= MOST
+}
+
+// From `from` on, the index of the first code point that is unfit and joins nothing before it, or the length. A mark is unfit by itself, so
+// only of what is unfit is it asked whether it joins `last`, which stands before it; 0, which is no base, stands before the first.
+fn first_stop(kanji: &[u32], text: &[u32], from: usize) -> usize
+    ensures { λ r. ⌜ r ≡ stopFrom (todayWith (now (kanji .entry))) 0 from (drop from (now (text .entry))) ⌝ }
 {
     let mut last = 0;
-    let mut i = 0;
+    let mut i = from;
     while i < text.len() {
         let at = i;
         let c = replaced(text[at]);
-        let one = joined(last, c);
         i += 1;
-        if one == 0 {
-            if is_unfit_with(kanji, IN_FORCE, c) {
+        if is_unfit_with(kanji, IN_FORCE, c) {
+            let one = joined(last, c);
+            if one == 0 {
                 return at;
             }
-            last = c;
-        } else {
             last = one;
+        } else {
+            last = c;
         }
     }
     i
@@ -54,7 +65,7 @@ fn first_stop(kanji: &[u32], text: &[u32]) -> usize
 
 // Do the rules of labels accept the normal form?
 fn is_name(kanji: &[u32], text: &[u32]) -> bool
-    requires { ⌜ (0 < length (now text)) × (length (now text) ≤ 256) ⌝ }
+    requires { ⌜ within 1 256 (length (now text)) ≡ true ⌝ }
     ensures { λ r. ⌜ r ≡ eqb (byLabels (todayWith (now (kanji .entry))) (labels (normalForm (now (text .entry)))) .number) 0 ⌝ }
 {
     let mut form = [0u32; 256];
@@ -65,24 +76,12 @@ fn is_name(kanji: &[u32], text: &[u32]) -> bool
     verdict.number == ACCEPTED
 }
 
-// The length is asked before anything is read, and the labels last: only then is room for a normal form made.
-pub fn acceptable_with(kanji: &[u32], text: &[u32]) -> Searched
+// What is answered of a text that is read, and at which index that stops. Only a text that was read to its end is put into normal form.
+fn answered(kanji: &[u32], text: &[u32], stop: usize) -> Searched
+    requires { ⌜ Stops (todayWith (now kanji)) (now text) stop ⌝ }
     ensures { λ r. ⌜ r ≡ searched (todayWith (now (kanji .entry))) (now (text .entry)) ⌝ }
 {
     let n = text.len();
-    if n == 0 {
-        return Searched {
-            yes: false,
-            read: 0,
-        };
-    }
-    if MOST < n {
-        return Searched {
-            yes: false,
-            read: 0,
-        };
-    }
-    let stop = first_stop(kanji, text);
     if stop < n {
         return Searched {
             yes: false,
@@ -93,10 +92,51 @@ pub fn acceptable_with(kanji: &[u32], text: &[u32]) -> Searched
     Searched { yes, read: n }
 }
 
-// The same by the kanji themselves.
+pub fn acceptable_with(kanji: &[u32], text: &[u32]) -> Searched
+    ensures { λ r. ⌜ r ≡ searched (todayWith (now (kanji .entry))) (now (text .entry)) ⌝ }
+{
+    if is_read(text.len()) {
+        let stop = first_stop(kanji, text, 0);
+        return answered(kanji, text, stop);
+    }
+    Searched {
+        yes: false,
+        read: 0,
+    }
+}
+
+// Is the code point there surely no kanji?
+fn no_kanji_at(text: &[u32], at: usize) -> bool
+    ensures { λ r. ⌜ r ≡ noKanjiAt (now (text .entry)) at ⌝ }
+{
+    if at < text.len() {
+        let c = replaced(text[at]);
+        if c < 0x4E00 {
+            return true;
+        }
+        return 0x9FA0 < c;
+    }
+    false
+}
+
+// The same by the kanji themselves. Their table is long, so it is named only where a kanji is met, or the end: up to there none is lent.
 pub fn acceptable(text: &[u32]) -> Searched
     ensures { λ r. ⌜ r ≡ searched today (now (text .entry)) ⌝ }
 {
+    if !is_read(text.len()) {
+        return Searched {
+            yes: false,
+            read: 0,
+        };
+    }
+    let at = first_stop(&text[0..0], text, 0);
+    if no_kanji_at(text, at) {
+        return Searched {
+            yes: false,
+            read: at + 1,
+        };
+    }
     let kanji = characters::kanji_bits();
-    acceptable_with(&kanji, text)
+    let stop = first_stop(&kanji, text, at);
+    answered(&kanji, text, stop)
 }

@@ -70,7 +70,7 @@ fn in_turn(file: &mut CaseFile, text: &[u32]) {
 /// Every place of the longest text, and what follows it.
 fn every_place(file: &mut CaseFile) {
     for place in 0..256 {
-        let after = (255 - place).min(place % 4);
+        let after = (255 - place).min(1 + place % 4);
         ask(file, place, &[vec![0x61; place], vec![0x21], vec![0x62; after]].concat());
     }
     // Past characters that are joined the place is still one of the text.

@@ -1,32 +1,30 @@
--- `acceptable_with` meets its contract: each return is one of the ways in which a text is read.
+-- `acceptable_with` meets its contract: a text that is not read is refused for its length, and of another the walk from its start tells the stop.
 -- Assumes nothing.
-use native.Mathlib.Omega.{arith}
-use Rattle.searches.proofs.Searching.{lent-there, no-text, too-long, stopped, read-all}
+use mathlib.Core.Path.{sym, _∙_}
+use Rattle.searches.proofs.Walking.{lent-joins, stops-is}
+use Rattle.searches.proofs.Searching.{lent-there, unread-so}
 use borrow.Author.Needs.{needs}
 use Rattle.searches.proofs.acceptable_with.Statement.{statement}
 use Rattle.searches.proofs.acceptable_with.Tie as tie
 
-returns : tie.Need-returns
-returns c = no-text _ _ (lent-there _) (c .if1 .taken)
-
-returns-2 : tie.Need-returns-2
-returns-2 c = too-long _ _ (lent-there _) (c .before .if1 .left) (c .if2 .taken)
+is-read-requires : tie.Need-is-read-requires
+is-read-requires c κs = search needs
 
 first-stop-requires : tie.Need-first-stop-requires
 first-stop-requires c κs = search needs
 
-add-t7 : tie.Need-add-t7
-add-t7 c = search needs
+answered-requires : tie.Need-answered-requires
+answered-requires c κs = record {
+  read = sym (c .before .before .is-read .ensures) ∙ c .before .if1 .taken;
+  place = c .first-stop .ensures ∙ sym (stops-is _ (lent-joins _) _);
+}
 
-returns-3 : tie.Need-returns-3
-returns-3 c = stopped _ _ (lent-there _) (c .before .before .before .if1 .left) (c .before .before .if2 .left) (c .before .first-stop .ensures) (c .if3 .taken)
+returns : tie.Need-returns
+returns c = search needs
 
-is-name-requires : tie.Need-is-name-requires
-is-name-requires c κs = search needs
-
-returns-4 : tie.Need-returns-4
-returns-4 c = read-all _ _ (lent-there _) (c .before .before .before .before .if1 .left) (c .before .before .before .if2 .left) (c .before .before .first-stop .ensures) (c .before .if3 .left) (c .is-name .ensures)
+returns-2 : tie.Need-returns-2
+returns-2 c = unread-so _ _ (lent-there _) (sym (c .before .is-read .ensures) ∙ c .if1 .left)
 
 pub acceptable-with-spec : {M : Type 1} → statement M
 acceptable-with-spec =
-    tie.close (tie.spec returns returns-2 first-stop-requires add-t7 returns-3 is-name-requires returns-4)
+    tie.close (tie.spec is-read-requires first-stop-requires answered-requires returns returns-2)

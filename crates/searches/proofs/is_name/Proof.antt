@@ -1,6 +1,7 @@
 -- `is_name` meets its contract: of a text of 1 to 256 code points the normal form stands at the start of the array, and its labels are asked.
 -- Assumes nothing.
 use native.Mathlib.Omega.{arith}
+use Rattle.lists.proofs.Laws.{in-range}
 use Rattle.fronts.proofs.Fronting.{inside}
 use Rattle.searches.proofs.Searching.{labels-said}
 use borrow.Author.Needs.{needs}
@@ -29,7 +30,7 @@ name-rules-with-requires : tie.Need-name-rules-with-requires
 name-rules-with-requires c κs = search needs
 
 returns : tie.Need-returns
-returns c = labels-said (c .before .before .before .before .before .normal-form .ensures) (omega arith) (c .before .before .before .before .before .before .before .before .before .pre) _ (c .before .name-rules-with .ensures)
+returns c = labels-said (c .before .before .before .before .before .normal-form .ensures) (omega arith) (in-range 1 256 _ (c .before .before .before .before .before .before .before .before .before .pre)) _ (c .before .name-rules-with .ensures)
 
 pub is-name-spec : {M : Type 1} → statement M
 is-name-spec =
