@@ -17,8 +17,8 @@ use std::collections::BTreeSet;
 /// The texts of the case file, as names and as the search box asks them.
 fn texts() -> Vec<Vec<u32>> {
     let lines = well_formed_lines();
-    let asked = lines.iter().filter(|line| line.starts_with(['Z', 'z']) || line.starts_with("C 256"));
-    asked.map(|line| numbers_of(line)).collect()
+    let by = |line: &&String| ["Z 0", "z 0", "O 12", "C 256"].iter().any(|call| line.starts_with(call));
+    lines.iter().filter(by).map(|line| numbers_of(line)).collect()
 }
 
 /// The same, and random names, whole and damaged.
