@@ -32,8 +32,8 @@ if (grown) wrong('its memory grows');
 
 // What is lent stands behind the tables, each with room.
 const heap = calls.__heap_base.value;
-const line = heap, out = line + 4096, state = out + 256, form = state + 258 * 4, answer = form + 256 * 4, ascii = answer + 48;
-if (ascii + 256 > PAGE) wrong('there is no room behind the tables');
+const line = heap, out = line + 4096, state = out + 256, form = state + 258 * 4, answer = form + 256 * 4, ascii = answer + 48, read = ascii + 256;
+if (read + 4 > PAGE) wrong('there is no room behind the tables');
 const octets = new Uint8Array(calls.memory.buffer);
 const words = new Uint32Array(calls.memory.buffer);
 const tables = octets.slice(32768, heap);
@@ -46,7 +46,7 @@ const answerTo = (bytes) => {
 
 // Yes or no for the search box, by number and place of the ASCII form.
 const searched = (name, number, place) => {
-    const points = Array.from(name, (c) => c.codePointAt(0)), read = ascii;
+    const points = Array.from(name, (c) => c.codePointAt(0));
     words.set(points, line / 4);
     const yes = calls.sagebasket_acceptable(line, BigInt(points.length), read);
     const count = number === 2 || number === 3 ? 0 : number === 4 ? place + 1 : points.length;

@@ -2,16 +2,16 @@
 -- rules say. It reads nothing exactly where the length alone refuses, and never more than 256 code points.
 -- Assumes nothing.
 use mathlib.Core.Path.{_≡_, refl, sym, ap, _∙_}
-use mathlib.Core.Bool.{true, false}
+use mathlib.Core.Bool.{true}
 use mathlib.Core.List.{List}
-use mathlib.Core.Logic.{_⊎_, _↔_, inl, inr, ⊎-elim}
+use mathlib.Core.Logic.{_⊎_, _↔_, inl, inr}
 use Prim.Native.Nat.{ℕ, _≤_, _<_}
 use native.Mathlib.Omega.{arith}
 use lib.Dec.{eqb}
 use lib.ListN.{length}
 use borrow.Author.Tests.{eqb-true, eq-eqb}
 use Rattle.lists.specs.Tests.{within}
-use Rattle.lists.proofs.Laws.{clash, inside, in-range, lt-or-le}
+use Rattle.lists.proofs.Laws.{in-range}
 use Rattle.characters.specs.KanjiBits.{kanjiBits}
 use Rattle.rules.specs.Permits.{Permits}
 use Rattle.rules.specs.Rules.{rules}
@@ -24,7 +24,7 @@ use Rattle.names.proofs.Demands.{check-says}
 use Rattle.searches.specs.Searches.{readBy, searchedBy, searched}
 use Rattle.searches.specs.Examples.{AsAsked, as-asked}
 use Rattle.searches.specs.declared.Searched.{Searched}
-use Rattle.searches.proofs.Searching.{Ways, unread, stop, all, way}
+use Rattle.searches.proofs.Searching.{by-length, Ways, unread, stop, all, way}
 
 -- ---- beside the check
 
@@ -46,24 +46,20 @@ module _ (P : Permits) {text before after : List ℕ} {c : Checked} (C : Checks 
 
 -- ---- the length alone
 
-module _ (P : Permits) (there-is : P .known ≡ true) (text : List ℕ) where
-  abbrev Lengths : Searched → Type 0
-  Lengths r = ((r .read ≡ 0) ↔ ((length text ≡ 0) ⊎ (256 < length text))) × (r .read ≤ 256) × (r .read ≤ length text)
+-- nothing is read exactly where the length alone refuses, and no more than 256 code points or than there are
+abbrev pub Lengths : List ℕ → Searched → Type 0
+Lengths text r = ((r .read ≡ 0) ↔ ((length text ≡ 0) ⊎ (256 < length text))) × (r .read ≤ 256) × (r .read ≤ length text)
 
-  pub lengths : Lengths (searched P text)
+module _ (P : Permits) (there-is : P .known ≡ true) (text : List ℕ) where
+  pub lengths : Lengths text (searched P text)
   lengths = by-way (way P text there-is)
     where
       over : within 1 256 (length text) ≡ true → (length text ≡ 0) ⊎ (256 < length text) → ⊥
       over r (inl z) = omega (arith, in-range 1 256 (length text) r .0)
       over r (inr z) = omega (arith, in-range 1 256 (length text) r .1)
 
-      refused : within 1 256 (length text) ≡ false → (length text ≡ 0) ⊎ (256 < length text)
-      refused e =
-          ⊎-elim (λ h. inr h) (λ h. ⊎-elim (λ l. inl (omega arith)) (λ l. clash (inside 1 256 (length text) l h) e) (lt-or-le (length text) 1))
-          (lt-or-le 256 (length text))
-
-      by-way : {r : Searched} → Ways P text there-is r → Lengths r
-      by-way (unread e) = ((λ z. refused e, λ z. refl), omega arith, omega arith)
+      by-way : {r : Searched} → Ways P text there-is r → Lengths text r
+      by-way (unread e) = ((λ z. by-length (length text) e, λ z. refl), omega arith, omega arith)
       by-way (stop r h) = ((λ z. absurd (omega arith), λ z. absurd (over r z)), omega (arith, in-range 1 256 (length text) r .1), omega arith)
       by-way (all r y) = ((λ z. inl z, λ z. absurd (over r z)), in-range 1 256 (length text) r .1, omega arith)
 
@@ -81,7 +77,7 @@ module _ {text before after : List ℕ} {c : Checked} (C : Checks today text bef
   pub count-today : r .read ≡ readBy (checkSaid c) (length text)
   count-today = count-is today C room S
 
-pub lengths-today : (text : List ℕ) → Lengths today there-is-today text (searched today text)
+pub lengths-today : (text : List ℕ) → Lengths text (searched today text)
 lengths-today = lengths today there-is-today
 
 pub asked-today : AsAsked today

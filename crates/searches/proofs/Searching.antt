@@ -4,26 +4,26 @@
 use mathlib.Core.Path.{_≡_, refl, sym, ap, _∙_}
 use mathlib.Core.Bool.{Bool, true, false, not, _||_}
 use mathlib.Core.List.{List}
-use mathlib.Core.Logic.{⊎-elim}
+use mathlib.Core.Logic.{_⊎_, inl, inr, ⊎-elim}
 use Prim.Native.Nat.{ℕ, _+_, _-_, _≤_, _<_}
 use native.Mathlib.Omega.{arith}
 use lib.Dec.{eqb}
-use lib.ListN.{length, take, drop, getD}
-use borrow.Author.Tests.{eqb-true, eqb-false, not-true}
-use Rattle.lists.specs.Tests.{pick, within, allOf, anyOf, indexOf}
+use lib.ListN.{length, take, drop}
+use borrow.Author.Tests.{not-true}
+use Rattle.lists.specs.Tests.{within, allOf, anyOf, indexOf}
 use Rattle.lists.specs.declared.Answer.{Answer}
 use Rattle.lists.proofs.Laws as Laws
 use Rattle.lists.proofs.Laws.{by-test, lt-or-le, neither, clash, in-range}
 use Rattle.lists.proofs.Scan.{found-inside}
 use Rattle.lists.proofs.Tables.{of-rows}
-use Rattle.normal.specs.Normal.{normalForm, places}
+use Rattle.normal.specs.Normal.{normalForm}
 use Rattle.normal.specs.Calls.{Normalises}
 use Rattle.normal.specs.declared.Normal.{Normal}
 use Rattle.normal.proofs.Answers.{no-refusal}
 use Rattle.normal.proofs.Origins.{began-before}
 use Rattle.rules.specs.Labels.{labels}
 use Rattle.rules.specs.Permits.{Permits}
-use Rattle.rules.specs.Rules.{unfit, labelRows, nameRows, verdict, byLabels, rules, refused}
+use Rattle.rules.specs.Rules.{unfit, labelRows, nameRows, verdict, byLabels, rules}
 use Rattle.rules.specs.Editions.{editionWith, todayWith}
 use Rattle.rules.specs.declared.Verdict.{Verdict}
 use Rattle.rules.proofs.Steps.{front-2, front-3, front-4, front-0, text-front, text-on}
@@ -62,6 +62,11 @@ module _ {text before after : List ℕ} {n : Normal} (N : Normalises text before
       → eqb (v .number) 0 ≡ eqb (byLabels P (labels (normalForm text)) .number) 0
   labels-said P q = ap (λ (v : Verdict). eqb (v .number) 0) (q ∙ ap (λ (l : List ℕ). byLabels P (labels l)) form-there)
 
+-- as the code asks the length
+pub by-length : (n : ℕ) → within 1 256 n ≡ false → (n ≡ 0) ⊎ (256 < n)
+by-length n e =
+    ⊎-elim (λ h. inr h) (λ h. ⊎-elim (λ l. inl (omega arith)) (λ l. clash (Laws.inside 1 256 n l h) e) (lt-or-le n 1)) (lt-or-le 256 n)
+
 -- by the edition in force, whatever table is lent
 pub lent-there : (table : List ℕ) → todayWith table .known ≡ true
 unfolding editionWith within
@@ -91,17 +96,12 @@ module _ (P : Permits) (text : List ℕ) where
     unfolding searched searchedBy readBy
     no-text e = rw (text-front P text (front-2 P text e) there-is (λ z. omega arith))
 
-    too-long : (length text ≡ 0 → ⊥) → 256 < length text → said false 0 ≡ searched P text
+    too-long : 256 < length text → said false 0 ≡ searched P text
     unfolding searched searchedBy readBy
-    too-long some h = rw (text-front P text (front-3 P text some h) there-is (λ z. omega arith))
+    too-long h = rw (text-front P text (front-3 P text (λ z. omega arith) h) there-is (λ z. omega arith))
 
-    -- as the code asks the length
     pub unread-so : within 1 256 (length text) ≡ false → said false 0 ≡ searched P text
-    unread-so e =
-        by-test (λ b. eqb (length text) 0 ≡ b → said false 0 ≡ searched P text) (eqb (length text) 0) (λ p z. no-text (eqb-true (length text) 0 z))
-        (λ p z.
-        let some = eqb-false (length text) 0 z in
-        ⊎-elim (too-long some) (λ h. clash (Laws.inside 1 256 (length text) (omega arith) h) e) (lt-or-le 256 (length text))) refl
+    unread-so e = ⊎-elim no-text too-long (by-length (length text) e)
 
     module _ (r : within 1 256 (length text) ≡ true) {s : ℕ} (e : s ≡ stopsAt P text) where
       some : length text ≡ 0 → ⊥

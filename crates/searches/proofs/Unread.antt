@@ -4,14 +4,12 @@
 use mathlib.Core.Path.{_≡_, refl, sym, ap, _∙_}
 use mathlib.Core.Bool.{Bool, true, false}
 use mathlib.Core.List.{List, [], _∷_}
-use Prim.Native.Nat.{ℕ, zero, suc, _+_, _≤_, _<_}
+use Prim.Native.Nat.{ℕ, zero, suc, _+_, _<_}
 use native.Mathlib.Omega.{arith}
 use lib.Dec.{eqb}
 use lib.ListN.{length, take}
 use lib.Seq.{take-all}
-use borrow.Author.Tests.{eqb-true, eqb-false}
 use Rattle.lists.specs.Tests.{pick}
-use Rattle.lists.proofs.Laws.{by-test}
 use Rattle.characters.specs.Replace.{replace}
 use Rattle.characters.specs.Compose.{composed}
 use Rattle.characters.specs.KanjiBits.{kanjiBits}
