@@ -15,7 +15,8 @@
  *   - a count is true: so many entries can be read;
  *   - a buffer has the room that is written in the call, and is aligned for its type, as is every pointer;
  *   - no pointer is NULL, not even with a count of 0;
- *   - the answer and the buffer of one call do not overlap, nor does either of them overlap what the call reads;
+ *   - the answer and the buffer of one call do not overlap, nor does either of them, or a count that is lent, overlap
+ *     what the call reads;
  *   - no other thread writes meanwhile what a call was lent. Apart from that any threads may call at once: a call
  *     reads and writes only what it is lent, keeps nothing, allocates nothing and has no global state.
  *

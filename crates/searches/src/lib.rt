@@ -76,7 +76,7 @@ fn is_name(kanji: &[u32], text: &[u32]) -> bool
     verdict.number == ACCEPTED
 }
 
-// What is answered of a text that is read, and at which index that stops. Only a text that was read to its end is put into normal form.
+// What is answered of a text that is read up to `stop`, or to its end. Only then is it put into normal form.
 fn answered(kanji: &[u32], text: &[u32], stop: usize) -> Searched
     requires { ⌜ Stops (todayWith (now kanji)) (now text) stop ⌝ }
     ensures { λ r. ⌜ r ≡ searched (todayWith (now (kanji .entry))) (now (text .entry)) ⌝ }
@@ -92,6 +92,7 @@ fn answered(kanji: &[u32], text: &[u32], stop: usize) -> Searched
     Searched { yes, read: n }
 }
 
+// Is the text acceptable, and how many of its code points were read? The length is asked before any of them.
 pub fn acceptable_with(kanji: &[u32], text: &[u32]) -> Searched
     ensures { λ r. ⌜ r ≡ searched (todayWith (now (kanji .entry))) (now (text .entry)) ⌝ }
 {
@@ -119,7 +120,7 @@ fn no_kanji_at(text: &[u32], at: usize) -> bool
     false
 }
 
-// The same by the kanji themselves. Their table is long, so it is named only where a kanji is met, or the end: up to there none is lent.
+// The same by the kanji themselves. Their table is long, so none is lent until a kanji may have been met, or the end.
 pub fn acceptable(text: &[u32]) -> Searched
     ensures { λ r. ⌜ r ≡ searched today (now (text .entry)) ⌝ }
 {
