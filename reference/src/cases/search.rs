@@ -99,8 +99,10 @@ fn unfit(file: &mut CaseFile) {
 
 /// Marks after a base that they join, after others, after one another and first.
 fn marks(file: &mut CaseFile) {
-    let before = ["", "\u{3046}", "\u{30A6}", "\u{30AB}", "\u{306F}", "\u{FF8A}", "\u{FF73}", "\u{309D}", "\u{30CF}\u{309C}",
-        "\u{30AC}", "a", "-", ".", "\u{4E9C}", "\u{30FB}", "\u{30FC}"];
+    let before = [
+        "", "\u{3046}", "\u{30A6}", "\u{30AB}", "\u{306F}", "\u{FF8A}", "\u{FF73}", "\u{309D}",
+        "\u{30CF}\u{309C}", "\u{30AC}", "a", "-", ".", "\u{4E9C}", "\u{30FB}", "\u{30FC}",
+    ];
     for mark in MARKS {
         for before in before {
             let begun = [points(before), vec![mark]].concat();
@@ -145,7 +147,9 @@ fn letters(file: &mut CaseFile) {
         by_all(file, &points(text));
         by_all(file, &points(&text.repeat(20))[..400.min(text.chars().count() * 20)]);
     }
-    for (before, after) in [(" ", ""), ("", " "), ("", "\n"), ("\u{3000}", ""), ("\u{300C}", "\u{300D}"), ("\u{FEFF}", "")] {
+    for (before, after) in
+        [(" ", ""), ("", " "), ("", "\n"), ("\u{3000}", ""), ("\u{300C}", "\u{300D}"), ("\u{FEFF}", "")]
+    {
         by_all(file, &points(&format!("{before}abc.jp{after}")));
         in_turn(file, &points(&format!("{before}\u{FF76}\u{FF9E}.\u{FF2A}\u{FF30}{after}")));
     }
@@ -160,7 +164,10 @@ fn later(file: &mut CaseFile) {
             in_turn(file, &[&text[..place], &[0x5F], &text[place..]].concat());
         }
     }
-    for text in ["a!b!c.jp", "!!", ".. .jp", "--!", "\u{3046}\u{309B}!.jp", "!\u{3046}\u{309B}.jp", "xn--l8j!.jp", "a.b.c.d!"] {
+    for text in [
+        "a!b!c.jp", "!!", ".. .jp", "--!", "\u{3046}\u{309B}!.jp", "!\u{3046}\u{309B}.jp", "xn--l8j!.jp",
+        "a.b.c.d!",
+    ] {
         by_all(file, &points(text));
     }
 }
