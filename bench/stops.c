@@ -1,5 +1,6 @@
-/* One text, by the search box or by the check, so many times; then what was answered: yes or no, and how many code points were read.
- * usage: stops LIST                   the names of the texts, a line each
+/* One text, by the search box or by the check, so many times; then what was answered: yes or no, and how many code points were read, or of the
+ * check its number.
+ * usage: stops list                   the names of the texts, a line each
  *        stops SHAPE acceptable|check TIMES */
 #include <stdio.h>
 #include <stdlib.h>
@@ -13,7 +14,7 @@
 typedef struct shape {
     const char *name;
     const char32_t *begun; /* what it begins with */
-    size_t long_, end;     /* how many letters a follow, and whether ! is the last of them */
+    size_t letters, end;   /* how many letters a follow, and whether ! follows them */
 } shape;
 
 static const shape shapes[] = {
@@ -25,6 +26,7 @@ static const shape shapes[] = {
     {"ASCII", U"tokatimainitisinbunsya.jp", 0, 0},
     {"unfit first of 256", U"!", 255, 0},
     {"an emoji first of 256", U"😀", 255, 0},
+    {"no kanji among the kanji, first of 256", U"丂", 255, 0},
     {"unfit last of 256", U"", 255, 1},
     {"256 letters", U"", 256, 0},
     {"257 letters", U"", 257, 0},
@@ -36,7 +38,7 @@ static uint32_t text[MILLION + 64], form[SAGEBASKET_FORM_ROOM];
 static size_t made(const shape *s) {
     size_t n = 0;
     while (s->begun[n]) text[n] = s->begun[n], n++;
-    for (size_t i = 0; i < s->long_; i++) text[n++] = 'a';
+    for (size_t i = 0; i < s->letters; i++) text[n++] = 'a';
     if (s->end) text[n++] = '!';
     return n;
 }

@@ -5,7 +5,8 @@
  *
  * WHAT A CALL ANSWERS. A number: 0 is accepted, any other says why not (enum sagebasket_number). The number is
  * returned, and it stands in the lent answer too, with what else there is to tell (struct sagebasket_answer). Every
- * call writes all twelve numbers of the answer; what a call does not tell is 0.
+ * call that is lent an answer writes all twelve numbers of it; what a call does not tell is 0. The calls that ask for yes
+ * or no (is_edition, may_become, acceptable, live_may_become) return 1 for yes and 0 for no instead.
  *
  * WHAT IS WRITTEN. With 0, what the call gives stands at the start of the lent buffer, answer->length says how many
  * entries it has, and the rest of the buffer is as it was. No NUL is put after it. With any other number the length is
@@ -21,7 +22,8 @@
  *     reads and writes only what it is lent, keeps nothing, allocates nothing and has no global state.
  *
  * WHAT IS PROVED. For everything that a caller may hand over under these conditions: each call ends, and its contract
- * decides the number returned, all twelve numbers of the answer and every entry of the lent buffer, as said below.
+ * decides what is returned, all twelve numbers of the answer, every entry of the lent buffer and the lent count, as
+ * said below.
  * WHAT IS NOT. The compiler and the linker, that this header says what the contracts say, how much time and stack a
  * call takes (12 KiB were the most that was seen, on Arm), and that the definitions are what the registry means. Tests
  * run every call across the border beside `desk` and beside a second implementation.
@@ -140,7 +142,8 @@ uint32_t sagebasket_may_become(uint32_t edition, const uint32_t *text, size_t co
 
 /* Is the text acceptable: would sagebasket_check answer 0 by the edition in force? 1 yes, 0 no. For a search box: no
  * buffer is lent. *read is how many code points were read: 0 where the length alone refuses (none, or more than 256),
- * the place of the first unfit character and one more where one stops it, else all. What was not read plays no part. */
+ * the place of the first unfit character and one more where one stops it, else all. Of what was not read only the count
+ * plays a part. */
 uint32_t sagebasket_acceptable(const uint32_t *text, size_t count, uint32_t *read);
 
 /* The ASCII form of a nameserver's host name, at most 253 octets. 0, 2 to 7, 9, 10, 17 or 19. Tells no class, kinds or

@@ -72,7 +72,7 @@ class AsciiForm(NamedTuple):
 
 
 class Acceptable(NamedTuple):
-    """Is a text acceptable, and how many of its code points were read? It is true where it is."""
+    """Is a text acceptable, and how many of its code points were read? As a truth value it is `yes`."""
     yes: bool
     read: int
 

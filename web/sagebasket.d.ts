@@ -40,7 +40,7 @@ export interface AsciiAnswer extends Answer {
   kinds: Kinds;
 }
 
-/** Yes or no, and how many code points of the text were read. */
+/** Yes or no, and how many code points of the text were read. Ask its `yes`: an object is always true. */
 export interface Searched {
   yes: boolean;
   read: number;
@@ -70,8 +70,8 @@ export interface Sagebasket {
   /** Is there a continuation of the text, the empty one included, that is accepted? */
   mayBecome(text: string, edition?: number): boolean;
   /**
-   * For a search box: would check answer 0 by the edition in force? Read are no code points where the length alone refuses (none,
-   * or more than 256), the place of the first unfit character and one more where one stops it, else all.
+   * For a search box: would check answer 0 by the edition in force? `read` is 0 where the length alone refuses (no code point, or
+   * more than 256), the place of the first unfit character and one more where one stops it, else all.
    */
   acceptable(text: string): Searched;
   /** With 0 `text` is the ASCII form of a nameserver's host name. */

@@ -7,6 +7,7 @@ const CLASS_LETTERS = ['-', 'G', 'P'];
 const KIND_LETTERS = ['H', 'K', 'J', 'S'];
 
 // How much is handed over at most: one more than a call can take. What is longer is refused for its length, whatever it is.
+const MOST_TEXT = 257;
 const MOST_LABEL = 64;
 const MOST_LINE = 1025;
 // Where a state has its count, and the count that stands for any beyond 256 code points: no step changes that one.
@@ -84,7 +85,7 @@ class Module {
     this.calls = calls;
     this.answer = lend(Uint32Array, 12);
     this.state = lend(Uint32Array, 258);
-    this.points = lend(Uint32Array, FULL);
+    this.points = lend(Uint32Array, MOST_TEXT);
     this.octets = lend(Uint8Array, MOST_LINE);
     this.ascii = lend(Uint8Array, 256);
   }
@@ -145,7 +146,7 @@ class Sagebasket {
   acceptable(text) {
     wantString(text, 'a text');
     const { calls, points, answer } = this.#module;
-    const yes = calls.sagebasket_acceptable(points.byteOffset, this.#module.lent(text, FULL), answer.byteOffset);
+    const yes = calls.sagebasket_acceptable(points.byteOffset, this.#module.lent(text, MOST_TEXT), answer.byteOffset);
     return { yes: yes === 1, read: answer[0] };
   }
 
@@ -186,7 +187,7 @@ class Sagebasket {
     return new Live(this.#module, edition);
   }
 
-  // The calls on a whole text are those of a live check that read all of it.
+  // Check, ASCII forms and hope of a whole text are those of a live check that read all of it.
   #typed(text, edition) {
     const live = this.live(edition);
     live.type(text);

@@ -134,9 +134,11 @@ fn the_cases_stop_at_every_place() {
             .map(|line| check(&numbers_of(line), Edition::Today).map_or_else(|refusal| refusal.number, |_| 0))
             .collect();
         assert_eq!(numbers, [0, 2, 3, 4, 5, 6, 7, 8, 9, 10, 11, 12, 17].into(), "{call}");
+        let stop = |line: &&String| {
+            let read = acceptable(&numbers_of(line)).read;
+            check(&numbers_of(line), Edition::Today).is_err_and(|refusal| refusal.number == 4).then_some(read)
+        };
+        let stops: BTreeSet<usize> = of_call.iter().filter_map(stop).collect();
+        assert_eq!(stops, (1..=LONGEST_TEXT).collect(), "{call}");
     }
-    let stops = |text: &Vec<u32>| !acceptable(text).yes && acceptable(text).read < text.len();
-    let counts: BTreeSet<usize> =
-        texts().into_iter().filter(stops).map(|text| acceptable(&text).read).collect();
-    assert!((0..=255).all(|read| counts.contains(&read)), "{counts:?}");
 }

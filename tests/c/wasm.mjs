@@ -1,5 +1,5 @@
-// The wasm in Node: what it exports and asks for, how large it is as brotli sends it, and its answers to the lines of a batch, by sagebasket_line and by
-// the live check, beside `desk`'s.
+// The wasm in Node: what it exports and asks for, how large it is as brotli sends it, and its answers to the lines of a batch, by sagebasket_line, by
+// the live check and for the search box, beside `desk`'s.
 // usage: node tests/c/wasm.mjs WASM LINES ANSWERS
 import { readFileSync } from 'node:fs';
 import { brotliCompressSync } from 'node:zlib';
@@ -87,4 +87,4 @@ for (let at = 0; at < input.length; count++) {
 if (count !== answers.length) wrong('there are more answers than lines');
 if (Buffer.compare(tables, octets.slice(32768, heap))) wrong('its tables were written');
 const touched = octets.slice(0, 32768).findIndex((octet) => octet !== 0);
-console.log(`tests/c: wasm: ${count} lines by sagebasket_line and by the live check, as desk answers them; at most ${32768 - touched} octets of stack`);
+console.log(`tests/c: wasm: ${count} lines by sagebasket_line, by the live check and for the search box, as desk answers them; at most ${32768 - touched} octets of stack`);

@@ -72,8 +72,8 @@ module _ (f : ℕ → Bool) where
           let back : b + 0x60 - 0x60 ≡ b = omega arith in
           rw back at (entry (b + 0x60) h .1)
 
-  -- a test that every pair's one character passes, by computation, and 0 passes
-  pub of-composed : (b m : ℕ) → f 0 ≡ true → f 0x30F4 ≡ true → moved f 1 voiced ≡ true → allOf (λ (k : ℕ). f (k + 1)) repeats ≡ true
+  -- a test that every pair's one character passes, by computation, and 0
+  of-composed : (b m : ℕ) → f 0 ≡ true → f 0x30F4 ≡ true → moved f 1 voiced ≡ true → allOf (λ (k : ℕ). f (k + 1)) repeats ≡ true
       → moved f 2 halfVoiced ≡ true → f (composed b m) ≡ true
   unfolding composed
   of-composed b m z u v r h = mark (eqb m 0x309B) (eqb m 0x309C)
@@ -161,13 +161,22 @@ of-base f b m v r u h n = go (eitherKana voiced b) refl (elem b repeats) refl (e
     go false p false q false e true w = back (in-either f 0 halfVoiced b h w)
     go false p false q false e false w = absurd (n (baseless b m (rw (p, q, e, w))))
 
--- what is composed stands with the kana, from 3041 to 30FE
-composed-test : (b m : ℕ) → eqb (composed b m) 0 || within 0x3041 0x30FE (composed b m) ≡ true
-unfolding voiced repeats halfVoiced allOf within
-composed-test b m = of-composed (λ (v : ℕ). eqb v 0 || within 0x3041 0x30FE v) b m refl refl refl refl refl
+-- ---- what a base and a mark become
 
+abbrev orZero : (ℕ → Bool) → ℕ → Bool
+orZero f v = eqb v 0 || f v
+
+-- a test that every such character passes, by computation
+pub of-one : (f : ℕ → Bool) (b m : ℕ) → orZero f 0x30F4 ≡ true → moved (orZero f) 1 voiced ≡ true → allOf (λ (k : ℕ). orZero f (k + 1)) repeats ≡ true
+    → moved (orZero f) 2 halfVoiced ≡ true → (composed b m ≡ 0 → ⊥) → f (composed b m) ≡ true
+of-one f b m u v r h n =
+    either (eqb (composed b m) 0) (f (composed b m)) (of-composed (orZero f) b m refl u v r h)
+    (λ p. absurd (n (eqb-true (composed b m) 0 p))) (λ p. p)
+
+-- it stands with the kana, from 3041 to 30FE
 pub composed-kana : (b m : ℕ) → (composed b m ≡ 0 → ⊥) → within 0x3041 0x30FE (composed b m) ≡ true
-composed-kana b m n = either (eqb (composed b m) 0) _ (composed-test b m) (λ p. absurd (n (eqb-true (composed b m) 0 p))) (λ p. p)
+unfolding voiced repeats halfVoiced allOf within
+composed-kana b m n = of-one (within 0x3041 0x30FE) b m refl refl refl refl n
 
 -- ---- what stands before the kana is neither base nor mark
 

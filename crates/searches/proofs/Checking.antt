@@ -14,10 +14,9 @@ use Rattle.lists.specs.Tests.{within}
 use Rattle.lists.proofs.Laws.{in-range}
 use Rattle.characters.specs.KanjiBits.{kanjiBits}
 use Rattle.rules.specs.Permits.{Permits}
-use Rattle.rules.specs.Rules.{rules}
-use Rattle.rules.specs.Editions.{editionOf, today}
+use Rattle.rules.specs.Editions.{today}
 use Rattle.rules.specs.declared.Verdict.{Verdict}
-use Rattle.rules.proofs.Editions.{lending}
+use Rattle.rules.proofs.Editions.{today-laws, lending}
 use Rattle.names.specs.Calls.{checkSaid, Checks}
 use Rattle.names.specs.declared.Checked.{Checked}
 use Rattle.names.proofs.Demands.{check-says}
@@ -65,10 +64,6 @@ module _ (P : Permits) (there-is : P .known ≡ true) (text : List ℕ) where
 
 -- ---- at the edition in force
 
-pub there-is-today : today .known ≡ true
-unfolding editionOf within
-there-is-today = refl
-
 module _ {text before after : List ℕ} {c : Checked} (C : Checks today text before after c) (room : 256 ≤ length before) {r : Searched}
     (S : r ≡ searched today text) where
   pub yes-today : (r .yes ≡ true) ↔ (c .number ≡ 0)
@@ -78,7 +73,7 @@ module _ {text before after : List ℕ} {c : Checked} (C : Checks today text bef
   count-today = count-is today C room S
 
 pub lengths-today : (text : List ℕ) → Lengths text (searched today text)
-lengths-today = lengths today there-is-today
+lengths-today = lengths today (today-laws .there-is)
 
 pub asked-today : AsAsked today
 asked-today = lending AsAsked 4 {table = kanjiBits} refl as-asked

@@ -23,7 +23,7 @@ use Rattle.normal.proofs.Answers.{no-refusal}
 use Rattle.normal.proofs.Origins.{began-before}
 use Rattle.rules.specs.Labels.{labels}
 use Rattle.rules.specs.Permits.{Permits}
-use Rattle.rules.specs.Rules.{unfit, labelRows, nameRows, verdict, byLabels, rules}
+use Rattle.rules.specs.Rules.{unfit, labelRows, nameRows, verdict, byLabels}
 use Rattle.rules.specs.Editions.{editionWith, todayWith}
 use Rattle.rules.specs.declared.Verdict.{Verdict}
 use Rattle.rules.proofs.Steps.{front-2, front-3, front-4, front-0, text-front, text-on}

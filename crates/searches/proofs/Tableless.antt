@@ -18,13 +18,12 @@ use Rattle.characters.specs.declared.Kind.the-variants.{Hiragana, Katakana, Kan
 use Rattle.characters.specs.Replace.{replace}
 use Rattle.characters.specs.Compose.{composed}
 use Rattle.characters.proofs.Bits.{short}
-use Rattle.characters.proofs.Pairs.{low-no-base}
 use Rattle.rules.specs.Labels.{period}
 use Rattle.rules.specs.Permits.{Permits, jaChar, labelChar}
 use Rattle.rules.specs.Rules.{unfit}
 use Rattle.rules.specs.Editions.{editionWith, todayWith}
 use Rattle.searches.specs.Steps.{stopsAt, stopFrom, noKanjiAt}
-use Rattle.searches.proofs.Walking.{lent-joins, walk-stops, forward, stops-is}
+use Rattle.searches.proofs.Walking.{lent-joins, zero-no-base, walk-stops, forward, stops-is}
 
 lt-not-le : (a b : ℕ) → ltb a b ≡ not (leb b a)
 lt-not-le a b = ⊎-elim (λ h. rw (lt-ltb a b h, lt-leb b a h)) (λ h. rw (le-ltb a b h, le-leb b a h)) (lt-or-le a b)
@@ -106,9 +105,6 @@ at-stop P last i (c ∷ cs) h =
     go true true u h on = let e : i - i ≡ 0 = omega arith in rw e u
     go true false u h on = later _ (forward P (replace c) (suc i) cs) (on (replace c) (omega arith))
     go false b u h on = later _ (forward P (composed last (replace c)) (suc i) cs) (on (composed last (replace c)) (omega arith))
-
-zero-no-base : (x : ℕ) → composed 0 x ≡ 0
-zero-no-base x = low-no-base 0 (omega arith) x
 
 module _ (table : List ℕ) where
   abbrev none : Permits

@@ -16,13 +16,12 @@ use Rattle.characters.specs.KanjiBits.{kanjiBits}
 use Rattle.rules.specs.Permits.{Permits}
 use Rattle.rules.specs.Rules.{unfit}
 use Rattle.rules.specs.Editions.{today}
-use Rattle.rules.proofs.Editions.{lending}
+use Rattle.rules.proofs.Editions.{today-laws, lending}
 use Rattle.searches.specs.Searches.{searched}
 use Rattle.searches.specs.Steps.{stopsAt, stopFrom}
 use Rattle.searches.specs.declared.Searched.{Searched}
 use Rattle.searches.proofs.Walking.{Joins, lent-joins, forward, stops-is}
 use Rattle.searches.proofs.Searching.{said, unread-so, stopped, Ways, unread, stop, all, way}
-use Rattle.searches.proofs.Checking.{there-is-today}
 
 module _ (P : Permits) where
   -- a walk that stops k code points on stops there too in what begins with the same k + 1
@@ -70,4 +69,4 @@ module _ (P : Permits) where
             ap (searched P) (sym same) ∙ q
 
 pub unread-today : (t u : List ℕ) → length t ≡ length u → take (searched today t .read) t ≡ take (searched today t .read) u → searched today u ≡ searched today t
-unread-today = unread-alike today (lending Joins 4 {table = kanjiBits} refl (lent-joins kanjiBits)) there-is-today
+unread-today = unread-alike today (lending Joins 4 {table = kanjiBits} refl (lent-joins kanjiBits)) (today-laws .there-is)

@@ -13,7 +13,7 @@ use lib.ListN.{length, drop, getD, drop-of-length-le}
 use lib.Seq.{drop-cons}
 use borrow.Author.Tests.{eqb-true, eqb-false, ne-eqb, eq-eqb, not-true}
 use Rattle.lists.specs.Tests.{pick, within, allOf, anyOf, indexOf, elem}
-use Rattle.lists.proofs.Laws.{by-test, clash, either, differs}
+use Rattle.lists.proofs.Laws.{by-test, clash, differs}
 use Rattle.characters.specs.Characters.{alnum, hyphen, asciiSet, kinds, signs, signsIn, stretch, kindAmong, kindBy, anyKind, kanjiWith, kindWith}
 use Rattle.characters.specs.Replace.{replace}
 use Rattle.characters.specs.Compose.{voiced, repeats, halfVoiced, composed}
@@ -41,12 +41,13 @@ module _ (table : List ℕ) where
   unfolding editionWith jaChar labelChar unfit period asciiSet alnum hyphen voiced repeats halfVoiced allOf anyOf elem within kinds signs signsIn stretch kindAmong kindBy anyKind kanjiWith kindWith
   lent-joins = record {
     bases = λ b m n. not-true (unfit (todayWith table) b) (Pairs.of-base fit b m refl refl refl refl n);
-    ones = λ b m n.
-        not-true (unfit (todayWith table) (composed b m))
-        (either (eqb (composed b m) 0) (fit (composed b m)) (Pairs.of-composed (λ (v : ℕ). eqb v 0 || fit v) b m refl refl refl refl refl)
-        (λ e. absurd (n (eqb-true (composed b m) 0 e))) (λ e. e));
+    ones = λ b m n. not-true (unfit (todayWith table) (composed b m)) (Pairs.of-one fit b m refl refl refl refl n);
     marks = λ b m e. Pairs.unmarked b m (differs fit 0x309B refl m (ap not e)) (differs fit 0x309C refl m (ap not e));
   }
+
+-- 0 stands before the first
+pub zero-no-base : (x : ℕ) → composed 0 x ≡ 0
+zero-no-base x = Pairs.low-no-base 0 (omega arith) x
 
 module _ (P : Permits) where
   -- ---- a turn of the loop: x is what replaces the code point at i
@@ -142,7 +143,7 @@ module _ (P : Permits) where
     from-first [] = refl
     from-first (c ∷ cs) =
         turn (length (c ∷ cs)) (replace c) 0 (replacedFrom 1 cs) (λ u. walked (length (c ∷ cs)) (replace c) 0 1 cs (omega arith) u)
-        ∙ rw (Pairs.low-no-base 0 (omega arith) (replace c))
+        ∙ rw (zero-no-base (replace c))
 
     pub stops-is : (text : List ℕ) → stopsAt P text ≡ stopFrom P 0 0 text
     unfolding stopsAt normalForm places

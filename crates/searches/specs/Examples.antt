@@ -44,11 +44,15 @@ askedTexts =
     yes 12 (0x61 ∷ 0x62 ∷ 0x63 ∷ 0x2E ∷ 0x74 ∷ 0x6F ∷ 0x6B ∷ 0x79 ∷ 0x6F ∷ dotJp) ∷
     yes 5 (0xFF76 ∷ 0xFF9E ∷ dotJp) ∷
     yes 6 (0x61 ∷ 0x2212 ∷ 0x62 ∷ dotJp) ∷
+    -- a kanji, and a code point among the kanji that is none
+    yes 4 (0x4E9C ∷ dotJp) ∷
+    no 1 (0x4E02 ∷ dotJp) ∷
     -- the length alone refuses
     no 0 [] ∷
     no 0 (replicate 257 0x61) ∷
     no 0 (0x21 ∷ replicate 256 0x61) ∷
-    -- 4: the first code point; a mark after what is no base, which stops at the mark, and after a joined one; a mark first
+    -- 4: the first code point; a mark after what is no base, which stops at the mark, and after a joined one; a mark
+    -- first
     no 1 (0x21 ∷ replicate 255 0x61) ∷
     no 2 (0x3046 ∷ 0x309B ∷ dotJp) ∷
     no 3 (0xFF76 ∷ 0xFF9E ∷ 0xFF9E ∷ dotJp) ∷

@@ -12,7 +12,7 @@ use Rattle.normal.specs.Normal.{normalForm, places}
 use Rattle.rules.specs.Permits.{Permits}
 use Rattle.rules.specs.Rules.{unfit}
 
--- where the reading stops: at the place of refusal 4, or where no character is unfit at the end
+-- where the reading stops: at the place of refusal 4, or, where no character is unfit, at the end
 unfoldable pub stopsAt : Permits → List ℕ → ℕ
 stopsAt P text =
     let form = normalForm text in

@@ -124,7 +124,8 @@ fn no_kanji_at(text: &[u32], at: usize) -> bool
 pub fn acceptable(text: &[u32]) -> Searched
     ensures { λ r. ⌜ r ≡ searched today (now (text .entry)) ⌝ }
 {
-    if !is_read(text.len()) {
+    let n = text.len();
+    if !is_read(n) {
         return Searched {
             yes: false,
             read: 0,

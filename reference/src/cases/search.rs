@@ -1,6 +1,6 @@
 //! Yes or no for the search box (K9): an unfit code point at every place, marks
-//! that join and marks that do not, every length, what other rules refuse, and
-//! letters pasted whole; by the call that is lent the table of kanji, by the one
+//! that join and marks that do not, lengths about the shortest and the longest, what
+//! other rules refuse, and letters pasted whole; by the call that is lent the table of kanji, by the one
 //! that names it itself and by the outside's.
 
 use super::names::wide;
@@ -67,11 +67,11 @@ fn in_turn(file: &mut CaseFile, text: &[u32]) {
     ask(file, which, text);
 }
 
-/// Every place of the longest text, and what follows it.
+/// Every place up to the last that is read, and something after it.
 fn every_place(file: &mut CaseFile) {
     for place in 0..256 {
         let after = (255 - place).min(1 + place % 4);
-        ask(file, place, &[vec![0x61; place], vec![0x21], vec![0x62; after]].concat());
+        by_all(file, &[vec![0x61; place], vec![0x21], vec![0x62; after]].concat());
     }
     // Past characters that are joined the place is still one of the text.
     for pairs in (0..=20).chain([64, 126, 127]) {

@@ -10,11 +10,10 @@ use Rattle.lists.proofs.Laws.{in-range}
 use Rattle.characters.specs.KanjiBits.{kanjiBits}
 use Rattle.rules.specs.Permits.{Permits}
 use Rattle.rules.specs.Editions.{today}
-use Rattle.rules.proofs.Editions.{lending}
+use Rattle.rules.proofs.Editions.{today-laws, lending}
 use Rattle.searches.specs.Searches.{searched}
 use Rattle.searches.proofs.Tableless.{inside-at, again, anyway}
 use Rattle.searches.proofs.Searching.{said, lent-there, unread-so, stopped}
-use Rattle.searches.proofs.Checking.{there-is-today}
 use borrow.Author.Needs.{needs}
 use Rattle.searches.proofs.acceptable.Statement.{statement}
 use Rattle.searches.proofs.acceptable.Tie as tie
@@ -23,7 +22,7 @@ is-read-requires : tie.Need-is-read-requires
 is-read-requires c κs = search needs
 
 returns : tie.Need-returns
-returns c = unread-so today _ there-is-today (sym (c .before .is-read .ensures) ∙ not-true _ (c .if1 .taken))
+returns c = unread-so today _ (today-laws .there-is) (sym (c .before .is-read .ensures) ∙ not-true _ (c .if1 .taken))
 
 sub-first-stop : tie.Need-sub-first-stop
 sub-first-stop c = search needs
@@ -40,8 +39,8 @@ first-stop-requires c κs = search needs
 no-kanji-at-requires : tie.Need-no-kanji-at-requires
 no-kanji-at-requires c κs = search needs
 
-add-t12 : tie.Need-add-t12
-add-t12 c =
+add-t13 : tie.Need-add-t13
+add-t13 c =
     let h = inside-at _ _ (sym (c .before .no-kanji-at .ensures) ∙ c .if2 .taken) in
     let r = sym (c .before .before .before .before .before .is-read .ensures) ∙ not-false _ (c .before .before .before .before .if1 .left) in
     omega (arith, h, in-range 1 256 _ r .1)
@@ -79,5 +78,5 @@ pub acceptable-spec : {M : Type 1} → statement M
 acceptable-spec =
     tie.close
     (tie.spec is-read-requires returns sub-first-stop part-first-stop-start part-first-stop-end first-stop-requires
-    no-kanji-at-requires add-t12 returns-2 kanji-bits-requires slice-aggregate-first-stop first-stop-requires-2
+    no-kanji-at-requires add-t13 returns-2 kanji-bits-requires slice-aggregate-first-stop first-stop-requires-2
     slice-aggregate-answered answered-requires returns-3)
