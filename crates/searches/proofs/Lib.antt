@@ -3,3 +3,4 @@ pub mod Tableless
 pub mod Searching
 pub mod Checking
 pub mod Unread
+pub mod Earliest

@@ -23,7 +23,7 @@ use Rattle.normal.proofs.Answers.{no-refusal}
 use Rattle.normal.proofs.Origins.{began-before}
 use Rattle.rules.specs.Labels.{labels}
 use Rattle.rules.specs.Permits.{Permits}
-use Rattle.rules.specs.Rules.{unfit, labelRows, nameRows, verdict, byLabels}
+use Rattle.rules.specs.Rules.{unfit, labelRows, nameRows, verdict, byLabels, rules, refused}
 use Rattle.rules.specs.Editions.{editionWith, todayWith}
 use Rattle.rules.specs.declared.Verdict.{Verdict}
 use Rattle.rules.proofs.Steps.{front-2, front-3, front-4, front-0, text-front, text-on}
@@ -88,20 +88,18 @@ module _ (P : Permits) (text : List ℕ) where
   is-unfit : stopsAt P text < length text → some-unfit ≡ true
   is-unfit h = by-test (λ b. some-unfit ≡ b → b ≡ true) some-unfit (λ p q. refl) (λ p q. absurd (omega (arith, at-end q))) refl
 
-  is-fit : length text ≤ stopsAt P text → some-unfit ≡ false
+  pub is-fit : length text ≤ stopsAt P text → some-unfit ≡ false
   is-fit h = by-test (λ b. some-unfit ≡ b → b ≡ false) some-unfit (λ p q. absurd (omega (arith, inside q))) (λ p q. refl) refl
 
   module _ (there-is : P .known ≡ true) where
-    no-text : length text ≡ 0 → said false 0 ≡ searched P text
-    unfolding searched searchedBy readBy
-    no-text e = rw (text-front P text (front-2 P text e) there-is (λ z. omega arith))
-
-    too-long : 256 < length text → said false 0 ≡ searched P text
-    unfolding searched searchedBy readBy
-    too-long h = rw (text-front P text (front-3 P text (λ z. omega arith) h) there-is (λ z. omega arith))
+    -- the length alone refuses it
+    pub refused-so : within 1 256 (length text) ≡ false → (rules P text ≡ refused 2 0) ⊎ (rules P text ≡ refused 3 256)
+    refused-so e = ⊎-elim (λ z. inl (text-front P text (front-2 P text z) there-is (λ n. omega arith)))
+        (λ h. inr (text-front P text (front-3 P text (λ z. omega arith) h) there-is (λ n. omega arith))) (by-length (length text) e)
 
     pub unread-so : within 1 256 (length text) ≡ false → said false 0 ≡ searched P text
-    unread-so e = ⊎-elim no-text too-long (by-length (length text) e)
+    unfolding searched searchedBy readBy
+    unread-so e = ⊎-elim (λ v. rw v) (λ v. rw v) (refused-so e)
 
     module _ (r : within 1 256 (length text) ≡ true) {s : ℕ} (e : s ≡ stopsAt P text) where
       some : length text ≡ 0 → ⊥
@@ -110,11 +108,15 @@ module _ (P : Permits) (text : List ℕ) where
       few : length text ≤ 256
       few = in-range 1 256 (length text) r .1
 
-      pub stopped : s < length text → said false (s + 1) ≡ searched P text
-      unfolding searched searchedBy readBy stopsAt
-      stopped h =
+      pub stopped-4 : s < length text → rules P text ≡ refused 4 s
+      unfolding stopsAt
+      stopped-4 h =
           let u = is-unfit (omega (arith, e)) in
-          rw (text-front P text (front-4 P text some few u) there-is (λ z. omega arith), e, u)
+          text-front P text (front-4 P text some few u) there-is (λ z. omega arith) ∙ rw (e, u)
+
+      pub stopped : s < length text → said false (s + 1) ≡ searched P text
+      unfolding searched searchedBy readBy
+      stopped h = rw (stopped-4 h)
 
       pub read-all : length text ≤ s → {y : Bool} → y ≡ eqb (byLabels P (labels (normalForm text)) .number) 0 → said y (length text) ≡ searched P text
       unfolding searched

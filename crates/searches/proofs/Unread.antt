@@ -25,7 +25,7 @@ use Rattle.searches.proofs.Searching.{said, unread-so, stopped, Ways, u
 
 module _ (P : Permits) where
   -- a walk that stops k code points on stops there too in what begins with the same k + 1
-  same-stop : (last i k : ℕ) (t u : List ℕ) → k < length t → take (suc k) t ≡ take (suc k) u → stopFrom P last i t ≡ i + k → stopFrom P last i u ≡ i + k
+  pub same-stop : (last i k : ℕ) (t u : List ℕ) → k < length t → take (suc k) t ≡ take (suc k) u → stopFrom P last i t ≡ i + k → stopFrom P last i u ≡ i + k
   unfolding stopFrom
   same-stop last i k [] u h e s = absurd (omega arith)
   same-stop last i k (c ∷ cs) [] h e s = absurd (omega (arith, ap length e))

@@ -1,7 +1,7 @@
 // Yes or no for the search box: is a text acceptable, and how many of its code points were read? The call takes any text, is lent no buffer
 // and goes by the edition in force. It looks at the length, then reads from the left and stops at the first code point that brings 4. Its
-// meaning is defined in specs/Searches, over the rules; that its yes is the check's 0 is proofs/Checking, and that what it did not read
-// plays no part is proofs/Unread. The call `.._with` is lent the table of kanji; the call without names it itself.
+// meaning is defined in specs/Searches, over the rules; that its yes is the check's 0 is proofs/Checking, that what it did not read plays no
+// part proofs/Unread, and that no earlier code point brings 4 proofs/Earliest. The call `.._with` is lent the table of kanji; the call without names it itself.
 use characters::joined;
 use characters::replaced;
 use labelled::name_rules_with;
