@@ -9,7 +9,7 @@ use native.Mathlib.Omega.{arith}
 use lib.Dec.{ltb}
 use lib.ListN.{length, take, drop, length-drop, length-take}
 use lib.Seq.{take_all, take_at, length-take-le}
-use borrow.Author.Tests.{ne_eqb, lt_ltb, le-ltb, le-leb, lt-leb}
+use borrow.Author.Tests.{ne_eqb, lt-ltb, le-ltb, le-leb, lt-leb}
 use Rattle.lists.specs.Tests.{pick, index_of}
 use Rattle.lists.specs.Front.{written, Puts}
 use Rattle.lists.specs.Rows.{first}
@@ -82,7 +82,7 @@ module _ (P : Permits) (id name : List ℕ) where
 module _ (P : Permits) (line : List ℕ) where
   pub long_line : 1024 < length line → answer_to P line ≡ bad_answer
   unfolding answer_to bad_line
-  long_line h = simp (lt_ltb 1024 (length line) h)
+  long_line h = simp (lt-ltb 1024 (length line) h)
 
   module _ (h : length line ≤ 1024) where
     pub no_parts : Other ≡ parts_of line → answer_to P line ≡ bad_answer

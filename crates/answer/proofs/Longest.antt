@@ -8,7 +8,7 @@ use Prim.Native.Nat.{ℕ, ◌+◌, ◌*◌, ◌≤◌}
 use native.Mathlib.Omega.{arith}
 use lib.Dec.{eqb, ltb}
 use lib.ListN.{length, length-append}
-use borrow.Author.Tests.{eqb-true, not_false}
+use borrow.Author.Tests.{eqb-true, not-false}
 use Rattle.lists.specs.Tests.{pick, all_of, any_of}
 use Rattle.lists.specs.Rows.{first}
 use Rattle.lists.proofs.Laws.{both, neither}
@@ -48,7 +48,7 @@ pub good_id_lem : (line : List ℕ) → bad_line line ≡ false → good_id (id_
 unfolding bad_line
 good_id_lem line e =
     let c = neither (not (good_id (id_of line))) _ (neither (not (one_tab line)) _ (neither (ltb 1024 (length line)) _ e).1).1 in
-    not_false (good_id (id_of line)) c.0
+    not-false (good_id (id_of line)) c.0
 
 -- ---- the ASCII form of an accepted name: two or three labels, each of at most 63 octets
 

@@ -9,7 +9,7 @@ use Prim.Native.Nat.{ℕ, ◌+◌, ◌/◌, ◌%◌, ◌≤◌, ◌<◌}
 use native.Mathlib.Omega.{arith}
 use lib.Dec.{leb, ltb}
 use lib.ListN.{length, length-append}
-use borrow.Author.Tests.{ne_eqb, lt_ltb, le-ltb}
+use borrow.Author.Tests.{ne_eqb, lt-ltb, le-ltb}
 use Rattle.lists.specs.Tests.{pick, all_of}
 use Rattle.lists.specs.Front.{Puts}
 use Rattle.lists.proofs.Laws.{lt_or_le, by_test, all_append, no_entries}
@@ -31,18 +31,18 @@ module _ (x : ℕ) where
   unfolding decimal decimal_by
   one_digit h =
       let z : x % 10 ≡ x = omega arith in
-      rw (lt_ltb x 10 h, z)
+      rw (lt-ltb x 10 h, z)
 
   module _ (h : 10 ≤ x) where
     pub two_digits : x / 10 < 10 → decimal x ≡ ((0x30 + x / 10 % 10) ∷ []) ++ ((0x30 + x % 10) ∷ [])
     unfolding decimal decimal_by
     two_digits g =
         let z : x / 10 % 10 ≡ x / 10 = omega arith in
-        rw (le-ltb x 10 h, lt_ltb (x / 10) 10 g, z)
+        rw (le-ltb x 10 h, lt-ltb (x / 10) 10 g, z)
 
     hundreds : pick (ltb (x / 10 / 10) 10) ((0x30 + x / 10 / 10) ∷ []) ([] ++ ((0x30 + x / 10 / 10 % 10) ∷ [])) ≡ (0x30 + x / 10 / 10 % 10) ∷ []
     hundreds =
-        ⊎_elim (λ k. let z : x / 10 / 10 % 10 ≡ x / 10 / 10 = omega arith in rw (lt_ltb (x / 10 / 10) 10 k, z)) (λ k. rw (le-ltb (x / 10 / 10) 10 k))
+        ⊎_elim (λ k. let z : x / 10 / 10 % 10 ≡ x / 10 / 10 = omega arith in rw (lt-ltb (x / 10 / 10) 10 k, z)) (λ k. rw (le-ltb (x / 10 / 10) 10 k))
         (lt_or_le (x / 10 / 10) 10)
 
     pub three_digits : 10 ≤ x / 10 → decimal x ≡ ((0x30 + x / 10 / 10 % 10) ∷ []) ++ ((0x30 + x / 10 % 10) ∷ []) ++ ((0x30 + x % 10) ∷ [])

@@ -9,7 +9,7 @@ use native.Mathlib.Numerals.{add-one}
 use native.Mathlib.Omega.{arith}
 use lib.Dec.{eqb, leb, ltb}
 use lib.ListN.{length, take, drop, set, get_or}
-use lib.Seq.{take-add, take-suc-set, drop_cons}
+use lib.Seq.{take-add, take-suc-set, drop-cons}
 use borrow.Author.Tests.{eqb-false, ltb-false, le-leb, not-true}
 use Rattle.lists.specs.Tests.{within, all_of}
 use Rattle.lists.proofs.Laws.{both, inside, in_range, all_append}
@@ -23,7 +23,7 @@ encodes_more [] c = append-nil (encode c)
 encodes_more (a ∷ cs) c = ap (λ (l : List ℕ). encode a ++ l) (encodes_more cs c) ∙ sym (append_assoc (encode a) (encodes cs) (encode c))
 
 peel : (s : List ℕ) (i j : ℕ) → j ≡ suc i → i < length s → drop i s ≡ get_or s i 0 ∷ drop j s
-peel s i j e h = rw e (drop_cons s i 0 h)
+peel s i j e h = rw e (drop-cons s i 0 h)
 
 module _ (a : ℕ) (w : leads_three a ≡ true) where
   parts : (not (eqb a 0xED) ≡ true) × (within 0xE1 0xEF a ≡ true)

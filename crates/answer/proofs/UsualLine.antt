@@ -9,7 +9,7 @@ use native.Mathlib.Numerals.{add-one}
 use native.Mathlib.Omega.{arith}
 use lib.Dec.{leb}
 use lib.ListN.{length, take, drop, get_or, length-append, length-drop, take-append-drop}
-use lib.Seq.{split_at, drop_cons, take_at, length-take-le, get_or-take, get_or-append-add}
+use lib.Seq.{split_at, drop-cons, take_at, length-take-le, get_or-take, get_or-append-add}
 use borrow.Author.Tests.{eqb-true}
 use Rattle.lists.specs.Tests.{within, all_of, any_of, index_of}
 use Rattle.lists.specs.Front.{Puts}
@@ -84,7 +84,7 @@ module _ (s : List ℕ) {k t e : ℕ} {rest : List ℕ} (high : k ≤ length s) 
   all : s ≡ line_of id name ++ 0x0A ∷ drop (suc e) rest
   all =
       let back : drop t s ≡ 0x09 ∷ rest =
-      rw (er, add-one t) (drop_cons s t 0 (omega arith) ∙ ap (λ (b : ℕ). b ∷ drop (suc t) s) (tab_there s high et it)) in
+      rw (er, add-one t) (drop-cons s t 0 (omega arith) ∙ ap (λ (b : ℕ). b ∷ drop (suc t) s) (tab_there s high et it)) in
       let name_then : rest ≡ name ++ 0x0A ∷ drop (suc e) rest = split_at rest e 0 ie ∙ ap (λ (b : ℕ). name ++ b ∷ drop (suc e) rest) lf-there in
       sym (take-append-drop t s) ∙ ap (λ (l : List ℕ). id ++ l) (back ∙ ap (λ (l : List ℕ). 0x09 ∷ l) name_then)
       ∙ sym (append_assoc id (0x09 ∷ name) (0x0A ∷ drop (suc e) rest))

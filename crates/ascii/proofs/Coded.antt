@@ -9,7 +9,7 @@ use Prim.Native.Nat.{ℕ, ◌≤◌}
 use native.Mathlib.Omega.{arith}
 use lib.Dec.{eqb, leb, ltb}
 use lib.ListN.{length}
-use borrow.Author.Tests.{le-leb, lt_ltb}
+use borrow.Author.Tests.{le-leb, lt-ltb}
 use Rattle.lists.specs.Tests.{within, all_of}
 use Rattle.lists.proofs.Laws.{or_left, or_right, either, inside, outside, in_range, all_weaker, any_weaker, any_some}
 use Rattle.characters.specs.Characters.{alnum, hyphen, ascii_set}
@@ -35,7 +35,7 @@ module _ (P : Permits) (stretch : InStretch P) where
     unfolding label_char near
     char_near = either (ja_char P c) _ e
         (λ p. or_right (ltb c 0x80) _ (stretch c p))
-        (λ p. let h = ascii_range c p in or_left (ltb c 0x80) _ (lt_ltb c 0x80 (omega arith)))
+        (λ p. let h = ascii_range c p in or_left (ltb c 0x80) _ (lt-ltb c 0x80 (omega arith)))
 
     char_allowed : allowed c ≡ true
     unfolding label_char allowed wide

@@ -9,7 +9,7 @@ use native.Mathlib.Omega.{arith}
 use lib.Dec.{leb, ltb}
 use lib.ListN.{length, take, drop, get_or}
 use lib.Seq.{take_all}
-use borrow.Author.Tests.{lt_ltb, le-ltb, leb-true, leb-false}
+use borrow.Author.Tests.{lt-ltb, le-ltb, leb-true, leb-false}
 use Rattle.lists.specs.Tests.{pick, any_of}
 use Rattle.lists.specs.Front.{written}
 use Rattle.lists.specs.Rows.{first, given}
@@ -54,7 +54,7 @@ module _ (l before : List ℕ) where
         go true b t e = refl
         go false false t e = refl
         go false true true e = rw (le-ltb 63 (length (ace l)) (leb-true (length (ace l)) 63 e))
-        go false true false e = rw (lt_ltb 63 (length (ace l)) (leb-false (length (ace l)) 63 e))
+        go false true false e = rw (lt-ltb 63 (length (ace l)) (leb-false (length (ace l)) 63 e))
 
     writes_are : given (first (form_rows l (length before))) (label_form l) ≡ coder_writes l (length before)
     unfolding given coder_writes
@@ -72,7 +72,7 @@ module _ (l before : List ℕ) where
 
     pub no_room : {r : LabelForm} → length before < 63 → r ≡ record { number = 1; place = 0; length = 0 } → Forms l before before r
     unfolding form_rows
-    no_room h q = record { gives = gives_no label_formed _ _ before (hit 1 _ 0 _ (lt_ltb (length before) 63 h)) (λ z. omega arith) q }
+    no_room h q = record { gives = gives_no label_formed _ _ before (hit 1 _ 0 _ (lt-ltb (length before) 63 h)) (λ z. omega arith) q }
 
     module _ (h : 63 ≤ length before) where
       pub too_long : {r : LabelForm} → 63 < length l → r ≡ record { number = 14; place = 0; length = 0 } → Forms l before before r
@@ -81,7 +81,7 @@ module _ (l before : List ℕ) where
           record {
             gives = gives_no label_formed _ _ before
                 (passed_over 1 _ 0 _ (le-ltb (length before) 63 h) ∙ passed_over 13 _ 0 _ (rw w)
-                ∙ hit 14 _ 0 _ (lt_ltb 63 (length (label_form l)) (omega (arith, ap length low_form)))) (λ z. omega arith) q;
+                ∙ hit 14 _ 0 _ (lt-ltb 63 (length (label_form l)) (omega (arith, ap length low_form)))) (λ z. omega arith) q;
           }
 
       pub as_it_is : {after : List ℕ} → length l ≤ 63 → after ≡ written l before → Forms l before after (record { number = 0; place = 0; length = length l })

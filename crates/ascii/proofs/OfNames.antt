@@ -8,7 +8,7 @@ use Prim.Native.Nat.{ℕ, ◌≤◌}
 use native.Mathlib.Omega.{arith}
 use lib.Dec.{eqb, leb}
 use lib.ListN.{length}
-use borrow.Author.Tests.{le-leb, lt-leb, leb-true, le-ltb, eqb-true, not-true, not_false}
+use borrow.Author.Tests.{le-leb, lt-leb, leb-true, le-ltb, eqb-true, not-true, not-false}
 use Rattle.lists.specs.Tests.{pick, all_of, any_of}
 use Rattle.lists.specs.Front.{written}
 use Rattle.lists.specs.Rows.{first}
@@ -67,7 +67,7 @@ unfolding uncoded ascii_label
 label_size P l w u = go (is_japanese P l) refl u
   where
     go : (j : Bool) → is_japanese P l ≡ j → j && not (eqb (coder_number l 63) 0) ≡ false → length (pick j (ace l) l) ≤ 63
-    go true p u = (number_zero l 63 (eqb-true (coder_number l 63) 0 (not_false (eqb (coder_number l 63) 0) u))).1
+    go true p u = (number_zero l 63 (eqb-true (coder_number l 63) 0 (not-false (eqb (coder_number l 63) 0) u))).1
     go false p u = (ascii_fits P l p w).1
 
 -- ---- what the call answers of such a label

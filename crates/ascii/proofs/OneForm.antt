@@ -8,7 +8,7 @@ use Prim.Native.Nat.{ℕ}
 use native.Mathlib.Omega.{arith}
 use lib.Dec.{eqb}
 use lib.ListN.{length, get_or, take, drop, length-map}
-use borrow.Author.Tests.{eqb-true, not_false}
+use borrow.Author.Tests.{eqb-true, not-false}
 use Rattle.lists.specs.Tests.{pick, within, all_of, any_of, same}
 use Rattle.lists.proofs.Laws.{both, neither, or_left, or_right, clash, all_append, all_weaker, all_none, absent, all_but}
 use Rattle.characters.specs.Characters.{alnum, hyphen, ascii_set}
@@ -49,7 +49,7 @@ module _ (P : Permits) where
 
   takes : (l : List ℕ) → is_japanese P l ≡ true → uncoded P l ≡ false → encodable l ≡ true
   unfolding uncoded
-  takes l p u = (number_zero l 63 (eqb-true (coder_number l 63) 0 (not_false (eqb (coder_number l 63) 0) (rw p at u)))).0
+  takes l p u = (number_zero l 63 (eqb-true (coder_number l 63) 0 (not-false (eqb (coder_number l 63) 0) (rw p at u)))).0
 
   -- an ASCII label that does not seem encoded is no encoding
   no_encoding : {A : Type 0} (l k : List ℕ) → is_japanese P k ≡ false → seems_encoded P k ≡ false → ace l ≡ k → A

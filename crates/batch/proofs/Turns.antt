@@ -9,8 +9,8 @@ use native.Mathlib.Numerals.{add-one}
 use native.Mathlib.Omega.{arith}
 use lib.Dec.{leb}
 use lib.ListN.{length, take, drop, set, get_or, replicate, length-drop, length-replicate, drop_of_length-le}
-use lib.Seq.{take-add, drop-drop, drop_cons}
-use borrow.Author.Tests.{lt_ltb, le-ltb, le-leb, lt-leb}
+use lib.Seq.{take-add, drop-drop, drop-cons}
+use borrow.Author.Tests.{lt-ltb, le-ltb, le-leb, lt-leb}
 use Rattle.lists.specs.Tests.{any_of, index_of}
 use Rattle.lists.specs.Front.{Puts}
 use Rattle.lists.proofs.Laws.{clash, lt_or_le}
@@ -32,11 +32,11 @@ use Rattle.answer.proofs.Parts.{head_part, tail_part, lent, lent_back}
 module _ (s : List ℕ) (l : Line) (i : ℕ) (h : i < length s) where
   next : pushed_all l (drop i s) ≡ pushed_all (pushed l (get_or s i 0)) (drop (i + 1) s)
   unfolding pushed_all
-  next = rw (add-one i, drop_cons s i 0 h)
+  next = rw (add-one i, drop-cons s i 0 h)
 
   pub push_short : l.n < 1024 → pushed_all l (drop i s) ≡ pushed_all (record { held = set l.held l.n (get_or s i 0); n = l.n + 1 }) (drop (i + 1) s)
   unfolding pushed
-  push_short k = next ∙ simp (lt_ltb _ _ k)
+  push_short k = next ∙ simp (lt-ltb _ _ k)
 
   pub push_over : 1024 ≤ l.n → pushed_all l (drop i s) ≡ pushed_all (record { held = l.held; n = 1025 }) (drop (i + 1) s)
   unfolding pushed

@@ -7,7 +7,7 @@ use mathlib.Core.Logic.{⊎_elim}
 use Prim.Native.Nat.{ℕ, ◌+◌, ◌-◌, ◌≤◌, ◌<◌}
 use native.Mathlib.Omega.{arith}
 use lib.Dec.{eqb, leb, ltb}
-use borrow.Author.Tests.{eqb-true, eqb-false, ne_eqb, leb-true, lt_ltb, le-ltb, not-true}
+use borrow.Author.Tests.{eqb-true, eqb-false, ne_eqb, leb-true, lt-ltb, le-ltb, not-true}
 use Rattle.lists.specs.Tests.{pick, within, all_of, any_of, elem}
 use Rattle.lists.proofs.Laws.{both, neither, either, clash, outside, in_table, in_range, lt_or_le}
 use Rattle.characters.specs.Replace.{ranges, range_in, is_half, replace_in, replace}
@@ -34,7 +34,7 @@ module _ (table : List ℕ) (w : katakana_row table ≡ true) (b : ℕ) where
   either_row : elem (pick (ltb b 0x30A1) (b + 0x60) b) table ≡ either_kana table b
   unfolding either_kana
   either_row =
-      ⊎_elim (λ h. rw (lt_ltb b 0x30A1 h, outside_row b (λ i j. omega arith)))
+      ⊎_elim (λ h. rw (lt-ltb b 0x30A1 h, outside_row b (λ i j. omega arith)))
       (λ h. rw (le-ltb b 0x30A1 h, outside_row (b + 0x60) (λ i j. omega arith)) (sym (or-false (elem b table)))) (lt_or_le b 0x30A1)
 
   -- what the code finds: whether b, moved to the katakana row, is in the table

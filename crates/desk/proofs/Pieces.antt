@@ -6,7 +6,7 @@ use mathlib.Core.List.{List, ◌∷◌, ◌++◌}
 use Prim.Native.Nat.{ℕ, suc, ◌+◌, ◌-◌, ◌*◌, ◌≤◌, ◌<◌}
 use native.Mathlib.Omega.{arith}
 use lib.ListN.{length, take, drop, get_or, length-drop, length-append, drop_of_length-le}
-use lib.Seq.{drop_cons, drop-drop, length-take-le}
+use lib.Seq.{drop-cons, drop-drop, length-take-le}
 use borrow.Author.Tests.{le-leb}
 use Rattle.lists.proofs.Pieces.{puts_inside, puts_count}
 use Rattle.characters.specs.KanjiBits.{kanji_bits}
@@ -63,7 +63,7 @@ module _ {table piece out₀ out out' : List ℕ} {l₀ l : Line} {at count : �
   pub forward : 0 < r.used
   forward =
       let z : 0 < used (answer_to today) bad_answer l (get_or piece at 0 ∷ drop (suc at) piece) (length out) = goes_on (answer_to today) bad_answer l (get_or piece at 0) (drop (suc at) piece) k.room in
-      omega (arith, left.amount, ap (λ (s : List ℕ). used (answer_to today) bad_answer l s (length out)) (drop_cons piece at 0 h))
+      omega (arith, left.amount, ap (λ (s : List ℕ). used (answer_to today) bad_answer l s (length out)) (drop-cons piece at 0 h))
 
   -- what is written now, and what the rest will be
   parts : length (answered l (drop at piece)) ≡ r.wrote + length (answered r.line (drop (at + r.used) piece))

@@ -9,7 +9,7 @@ use Prim.Native.Nat.{ℕ, suc, ◌+◌, ◌-◌, ◌≤◌, ◌<◌}
 use native.Mathlib.Omega.{arith}
 use lib.Dec.{eqb, leb}
 use lib.ListN.{length, take, drop, get_or, length-drop}
-use lib.Seq.{drop_cons}
+use lib.Seq.{drop-cons}
 use borrow.Author.Tests.{leb-true, ne_eqb}
 use Rattle.lists.specs.Tests.{pick, within, any_of}
 use Rattle.lists.proofs.Laws.{both, inside, outside, lt_or_le}
@@ -38,10 +38,10 @@ module _ (f : List ℕ → Bool) (table starts : List ℕ) (i : ℕ) (l : Left f
   ahead : drop (i - 1) starts ≡ get_or starts (i - 1) 0 ∷ drop i starts
   ahead =
       let s : suc (i - 1) ≡ i = omega (arith, l.some) in
-      drop_cons starts (i - 1) 0 (omega arith) ∙ ap (λ (k : ℕ). get_or starts (i - 1) 0 ∷ drop k starts) s
+      drop-cons starts (i - 1) 0 (omega arith) ∙ ap (λ (k : ℕ). get_or starts (i - 1) 0 ∷ drop k starts) s
 
   two_ahead : drop (i - 1) starts ≡ get_or starts (i - 1) 0 ∷ get_or starts i 0 ∷ drop (suc i) starts
-  two_ahead = ahead ∙ ap (λ (ss : List ℕ). get_or starts (i - 1) 0 ∷ ss) (drop_cons starts i 0 h)
+  two_ahead = ahead ∙ ap (λ (ss : List ℕ). get_or starts (i - 1) 0 ∷ ss) (drop-cons starts i 0 h)
 
   ordered : leb (get_or starts (i - 1) 0) (get_or starts i 0) && starts_rise (length table) (get_or starts i 0 ∷ drop (suc i) starts) ≡ true
   unfolding starts_rise
@@ -53,7 +53,7 @@ module _ (f : List ℕ → Bool) (table starts : List ℕ) (i : ℕ) (l : Left f
   peel : any_of f (parts table starts)
       ≡ f (take (get_or starts i 0 - get_or starts (i - 1) 0) (drop (get_or starts (i - 1) 0) table)) || any_of f (parts table (drop i starts))
   unfolding parts any_of
-  peel = l.told ∙ ap (λ (ss : List ℕ). any_of f (parts table ss)) two_ahead ∙ rw (drop_cons starts i 0 h)
+  peel = l.told ∙ ap (λ (ss : List ℕ). any_of f (parts table ss)) two_ahead ∙ rw (drop-cons starts i 0 h)
 
   module _ {b : Bool} (e : b ≡ f (take (get_or starts i 0 - get_or starts (i - 1) 0) (drop (get_or starts (i - 1) 0) table))) where
     pub part_here : b ≡ true → true ≡ any_of f (parts table starts)
@@ -65,7 +65,7 @@ module _ (f : List ℕ → Bool) (table starts : List ℕ) (i : ℕ) (l : Left f
         record {
           some = omega arith;
           told = peel ∙ simp (sym e ∙ p, s);
-          order = rw (s, drop_cons starts i 0 h) (both (leb (get_or starts (i - 1) 0) (get_or starts i 0)) _ ordered).1;
+          order = rw (s, drop-cons starts i 0 h) (both (leb (get_or starts (i - 1) 0) (get_or starts i 0)) _ ordered).1;
         }
 
 pub part_end : (f : List ℕ → Bool) (table starts : List ℕ) (i : ℕ) → Left f table starts i → length starts ≤ i → false ≡ any_of f (parts table starts)

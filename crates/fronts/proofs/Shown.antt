@@ -6,7 +6,7 @@ use mathlib.Core.Logic.{⊎_elim}
 use Prim.Native.Nat.{ℕ, zero, suc, ◌-◌, ◌≤◌, ◌<◌}
 use native.Mathlib.Omega.{arith}
 use lib.ListN.{length, take, drop, replicate}
-use borrow.Author.Tests.{lt_ltb, le-ltb}
+use borrow.Author.Tests.{lt-ltb, le-ltb}
 use Rattle.lists.specs.Front.{written}
 use Rattle.lists.proofs.Fronts.{front}
 use Rattle.lists.proofs.Laws.{lt_or_le}
@@ -41,7 +41,7 @@ shown_none text e = rw (le-ltb 256 (length text) (omega arith)) (nil (normal_for
 
 pub shown_over : (text : List ℕ) → 256 < length text → shown text ≡ []
 unfolding shown
-shown_over text h = rw (lt_ltb 256 (length text) h)
+shown_over text h = rw (lt-ltb 256 (length text) h)
 
 pub shown_full : (text : List ℕ) → length text ≤ 256 → shown text ≡ normal_form text
 unfolding shown

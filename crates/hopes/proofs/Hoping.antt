@@ -8,7 +8,7 @@ use Prim.Native.Nat.{ℕ, suc, ◌+◌, ◌-◌, ◌≤◌, ◌<◌}
 use native.Mathlib.Omega.{arith}
 use lib.ListN.{length, take, drop, set, length-append}
 use lib.Seq.{take_all, take-suc-set}
-use borrow.Author.Tests.{not-true, not_false}
+use borrow.Author.Tests.{not-true, not-false}
 use Rattle.lists.specs.Tests.{within, any_of}
 use Rattle.lists.specs.Front.{written}
 use Rattle.lists.specs.Rows.{accepted, first, Clear}
@@ -75,11 +75,11 @@ module _ (P : Permits) where
     module _ (t : not b ≡ false) {j : Bool} (ej : j ≡ begins m jp) where
       pub two_jp : j ≡ true → true ≡ grows P (l ∷ m ∷ [])
       unfolding grows
-      two_jp u = rw (← e, not_false b t, ← ej, u)
+      two_jp u = rw (← e, not-false b t, ← ej, u)
 
       pub two_middle : j ≡ false → {p : Bool} → p ≡ any_of (begins m) P.middles → p ≡ grows P (l ∷ m ∷ [])
       unfolding grows
-      two_middle u ep = rw (← e, not_false b t, ← ej, u) ep
+      two_middle u ep = rw (← e, not-false b t, ← ej, u) ep
 
   module _ (l m z : List ℕ) {b : Bool} (e : b ≡ leftmost P l) where
     pub three_not : not b ≡ true → false ≡ grows P (l ∷ m ∷ z ∷ [])
@@ -89,11 +89,11 @@ module _ (P : Permits) where
     module _ (t : not b ≡ false) {p : Bool} (ep : p ≡ middle P m) where
       pub three_no_middle : not p ≡ true → false ≡ grows P (l ∷ m ∷ z ∷ [])
       unfolding grows
-      three_no_middle u = rw (← e, not_false b t, ← ep, not-true p u)
+      three_no_middle u = rw (← e, not-false b t, ← ep, not-true p u)
 
       pub three_last : not p ≡ false → {j : Bool} → j ≡ begins z jp → j ≡ grows P (l ∷ m ∷ z ∷ [])
       unfolding grows
-      three_last u ej = rw (← e, not_false b t, ← ep, not_false p u) ej
+      three_last u ej = rw (← e, not-false b t, ← ep, not-false p u) ej
 
   four_not : (ls : List (List ℕ)) → 3 < length ls → false ≡ grows P ls
   unfolding grows

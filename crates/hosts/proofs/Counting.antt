@@ -7,7 +7,7 @@ use mathlib.Core.List.{List, [], ◌∷◌, map}
 use Prim.Native.Nat.{ℕ, ◌+◌, ◌*◌, ◌≤◌, ◌<◌}
 use native.Mathlib.Omega.{arith}
 use lib.ListN.{length, drop, length-append}
-use borrow.Author.Tests.{not-true, not_false}
+use borrow.Author.Tests.{not-true, not-false}
 use Rattle.lists.specs.Tests.{all_of, index_of}
 use Rattle.lists.specs.Rows.{first}
 use Rattle.lists.specs.declared.Answer.{Answer}
@@ -53,16 +53,16 @@ module _ (P : Permits) {form : List ℕ} {from i total : ℕ} (g : Counting P fo
     pub count_refused : {a : Answer} → not r.coded ≡ true → a ≡ record { number = 14; place = i } → a ≡ first (coded_rows P form)
     unfolding coded_rows
     count_refused n q =
-        let u : uncoded P this ≡ true = not_false (uncoded P this) (sym t.coded ∙ not-true r.coded n) in
+        let u : uncoded P this ≡ true = not-false (uncoded P this) (sym t.coded ∙ not-true r.coded n) in
         let k = seek_here g.seek e s u in
         q ∙ sym (hit 14 _ _ _ k.0 ∙ rw k.1)
 
     module _ (y : not r.coded ≡ false) where
       taken : uncoded P this ≡ false
-      taken = not-true (uncoded P this) (sym t.coded ∙ not_false r.coded y)
+      taken = not-true (uncoded P this) (sym t.coded ∙ not-false r.coded y)
 
       count_is : r.count ≡ length (ascii_label P this)
-      count_is = t.count (not_false r.coded y)
+      count_is = t.count (not-false r.coded y)
 
       -- no sum wraps
       pub at_most : total + r.count ≤ 64 * i + 63

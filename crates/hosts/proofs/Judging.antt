@@ -8,7 +8,7 @@ use Prim.Native.Nat.{ℕ, ◌-◌, ◌≤◌, ◌<◌}
 use native.Mathlib.Omega.{arith}
 use lib.Dec.{ltb}
 use lib.ListN.{length, take, drop, replicate}
-use borrow.Author.Tests.{lt_ltb, le-ltb, ltb-true, ltb-false}
+use borrow.Author.Tests.{lt-ltb, le-ltb, ltb-true, ltb-false}
 use Rattle.lists.specs.Tests.{all_of, any_of, index_of}
 use Rattle.lists.specs.Front.{Puts}
 use Rattle.lists.specs.Rows.{Row, row, accepted, first, Clear}
@@ -132,7 +132,7 @@ module _ (P : Permits) {text before after : List ℕ} {n : ℕ} where
 module _ (P : Permits) (text before : List ℕ) where
   pub no_room : {r : HostForm} → length before < 255 → r ≡ host_formed (record { number = 1; place = 0 }) 0 → HostForms P text before before r
   unfolding call_rows
-  no_room h q = record { gives = gives_no host_formed _ _ before (hit 1 _ 0 _ (lt_ltb (length before) 255 h)) (λ z. omega arith) q }
+  no_room h q = record { gives = gives_no host_formed _ _ before (hit 1 _ 0 _ (lt-ltb (length before) 255 h)) (λ z. omega arith) q }
 
   module _ (h : 255 ≤ length before) {lent form : List ℕ} {j : Ruled} (J : Judges P text lent form j) where
     ruled : first (call_rows P text (length before)) ≡ record { number = j.number; place = j.place }

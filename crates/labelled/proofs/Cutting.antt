@@ -8,7 +8,7 @@ use Prim.Native.Nat.{ℕ, ◌+◌, ◌-◌, ◌≤◌, ◌<◌}
 use native.Mathlib.Omega.{arith}
 use lib.ListN.{length, take, drop, length-drop}
 use lib.Seq.{take_all}
-use borrow.Author.Tests.{lt_ltb, le-ltb}
+use borrow.Author.Tests.{lt-ltb, le-ltb}
 use Rattle.lists.specs.Tests.{index_of}
 use Rattle.lists.proofs.Laws.{lt_or_le}
 use Rattle.rules.specs.Labels.{period, labels}
@@ -74,16 +74,16 @@ module _ (t : List ℕ) (a : ℕ) (sa : a ≡ end_from t 0) where
   module _ (ka : a < length t) (b : ℕ) (sb : b ≡ end_from t (a + 1)) where
     pub is_two : length t ≤ b → ended 2 a b ≡ ends t
     unfolding ends
-    is_two k = rw (← sa, lt_ltb a (length t) ka, ← sb, le-ltb b (length t) k)
+    is_two k = rw (← sa, lt-ltb a (length t) ka, ← sb, le-ltb b (length t) k)
 
     module _ (kb : b < length t) (d : ℕ) (sd : d ≡ end_from t (b + 1)) where
       pub is_three : length t ≤ d → ended 3 a b ≡ ends t
       unfolding ends
-      is_three k = rw (← sa, lt_ltb a (length t) ka, ← sb, lt_ltb b (length t) kb, ← sd, le-ltb d (length t) k)
+      is_three k = rw (← sa, lt-ltb a (length t) ka, ← sb, lt-ltb b (length t) kb, ← sd, le-ltb d (length t) k)
 
       pub is_more : d < length t → ended 4 a b ≡ ends t
       unfolding ends
-      is_more k = rw (← sa, lt_ltb a (length t) ka, ← sb, lt_ltb b (length t) kb, ← sd, lt_ltb d (length t) k)
+      is_more k = rw (← sa, lt-ltb a (length t) ka, ← sb, lt-ltb b (length t) kb, ← sd, lt-ltb d (length t) k)
 
 -- so it is where the labels end
 module _ (t : List ℕ) where

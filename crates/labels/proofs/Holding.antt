@@ -8,7 +8,7 @@ use Prim.Native.Nat.{ℕ, suc, ◌+◌, ◌≤◌, ◌<◌}
 use native.Mathlib.Numerals.{add-one}
 use native.Mathlib.Omega.{arith}
 use lib.ListN.{length, drop, get_or, drop_of_length-le}
-use lib.Seq.{drop_cons}
+use lib.Seq.{drop-cons}
 use Rattle.lists.specs.Tests.{all_of, any_of}
 use Rattle.lists.proofs.Laws.{clash, or_swap, any_or}
 use Rattle.lists.proofs.Scan.{all_here, all_on, all_end}
@@ -87,7 +87,7 @@ module _ (table : List ℕ) (edition : ℕ) (label : List ℕ) where
 
       more : kinds_in Q (drop i label) ≡ together (only (Q.kind c)) (kinds_in Q (drop (suc i) label))
       unfolding kinds_in found together only any_of
-      more = ap (kinds_in Q) (drop_cons label i 0 h)
+      more = ap (kinds_in Q) (drop-cons label i 0 h)
 
       next : label_char Q c ≡ true → HeldSoFar (together (only (Q.kind c)) ks) (i + 1)
       next e = record {

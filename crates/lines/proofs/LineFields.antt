@@ -8,7 +8,7 @@ use Prim.Native.Nat.{ℕ, suc, ◌+◌, ◌-◌, ◌≤◌, ◌<◌}
 use native.Mathlib.Omega.{arith}
 use lib.Dec.{eqb, ltb}
 use lib.ListN.{length, drop, length-drop}
-use borrow.Author.Tests.{lt_ltb, le-ltb, eq-eqb, ne_eqb}
+use borrow.Author.Tests.{lt-ltb, le-ltb, eq-eqb, ne_eqb}
 use Rattle.lists.specs.Tests.{pick, within, any_of, all_of, index_of}
 use Rattle.lists.proofs.Laws.{both, inside, outside, in_range, or_left, or_right}
 use Rattle.lists.proofs.Scan.{found, not_found}
@@ -28,7 +28,7 @@ module _ (line : List ℕ) (at end : ℕ) (e : end ≡ at + index_of tab (drop a
   up_to_end = ap (λ (n : ℕ). up_to n (ltb n (length line))) e
 
   pub by_tab : end < length line → up_to end true ≡ field_at line at
-  by_tab h = ap (up_to end) (sym (lt_ltb end (length line) h)) ∙ up_to_end
+  by_tab h = ap (up_to end) (sym (lt-ltb end (length line) h)) ∙ up_to_end
 
   pub by_end : length line ≤ end → up_to end false ≡ field_at line at
   by_end h = ap (up_to end) (sym (le-ltb end (length line) h)) ∙ up_to_end

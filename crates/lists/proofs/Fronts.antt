@@ -7,7 +7,7 @@ use Prim.Native.Nat.{ℕ, suc, ◌+◌, ◌<◌, min}
 use native.Mathlib.Numerals.{add-one}
 use native.Mathlib.Omega.{arith}
 use lib.ListN.{length, take, drop, get_or, set}
-use lib.Seq.{take_at, drop_at, take_all, take-suc, drop_cons, set_at, append_snoc, length-take-le}
+use lib.Seq.{take_at, drop_at, take_all, take-suc, drop-cons, set_at, append_snoc, length-take-le}
 use Rattle.lists.specs.Front.{written}
 use Rattle.lists.proofs.Laws.{lt_or_le}
 
@@ -31,7 +31,7 @@ pub copies_next : (to₀ to from : List ℕ) (i : ℕ) → i < length to₀ → 
     → set to i (get_or from i 0) ≡ take (i + 1) from ++ drop (i + 1) to₀
 copies_next to₀ to from i h g e =
     let n : length (take i from) ≡ i = length-take-le i from (omega arith) in
-    rw (e, add-one i, drop_cons to₀ i 0 h, take-suc from i 0 g) (set_at (take i from) (get_or to₀ i 0) (drop (suc i) to₀) (get_or from i 0) i n ∙ sym (append_snoc (take i from) _ _))
+    rw (e, add-one i, drop-cons to₀ i 0 h, take-suc from i 0 g) (set_at (take i from) (get_or to₀ i 0) (drop (suc i) to₀) (get_or from i 0) i n ∙ sym (append_snoc (take i from) _ _))
 
 pub copied : (to₀ to from : List ℕ) (i : ℕ) → i ≡ min (length from) (length to₀) → to ≡ take i from ++ drop i to₀
     → to ≡ written (take (length to₀) from) to₀

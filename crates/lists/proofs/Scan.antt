@@ -9,8 +9,8 @@ use native.Mathlib.Numerals.{add-one}
 use native.Mathlib.Omega.{arith}
 use lib.Dec.{eqb, ltb}
 use lib.ListN.{length, take, drop, get_or, drop_of_length-le}
-use lib.Seq.{drop_cons, split_at}
-use borrow.Author.Tests.{eq-eqb, ne_eqb, lt_ltb, le-ltb, ltb-true}
+use lib.Seq.{drop-cons, split_at}
+use borrow.Author.Tests.{eq-eqb, ne_eqb, lt-ltb, le-ltb, ltb-true}
 use Rattle.lists.specs.Tests.{pick, all_of, any_of, index_of, elem, same}
 use Rattle.lists.proofs.Laws.{neither, lt_or_le}
 
@@ -18,7 +18,7 @@ module _ (f : ℕ → Bool) (t : List ℕ) (i : ℕ) where
   module _ (h : i < length t) where
     any_peel : any_of f (drop i t) ≡ f (get_or t i 0) || any_of f (drop (i + 1) t)
     unfolding any_of
-    any_peel = rw (add-one, drop_cons t i 0)
+    any_peel = rw (add-one, drop-cons t i 0)
 
     pub any_here : {b : Bool} → any_of f t ≡ any_of f (drop i t) → b ≡ f (get_or t i 0) → b ≡ true → true ≡ any_of f t
     any_here e p q = sym (e ∙ any_peel ∙ simp (sym p ∙ q))
@@ -28,7 +28,7 @@ module _ (f : ℕ → Bool) (t : List ℕ) (i : ℕ) where
 
     all_peel : all_of f (drop i t) ≡ f (get_or t i 0) && all_of f (drop (i + 1) t)
     unfolding all_of
-    all_peel = rw (add-one, drop_cons t i 0)
+    all_peel = rw (add-one, drop-cons t i 0)
 
     pub all_here : {b : Bool} → all_of f t ≡ all_of f (drop i t) → b ≡ f (get_or t i 0) → b ≡ false → false ≡ all_of f t
     all_here e p q = sym (e ∙ all_peel ∙ simp (sym p ∙ q))
@@ -38,7 +38,7 @@ module _ (f : ℕ → Bool) (t : List ℕ) (i : ℕ) where
 
     first_peel : index_of f (drop i t) ≡ pick (f (get_or t i 0)) 0 (suc (index_of f (drop (i + 1) t)))
     unfolding index_of
-    first_peel = rw (add-one, drop_cons t i 0)
+    first_peel = rw (add-one, drop-cons t i 0)
 
     pub first_here : {b : Bool} (n : ℕ) → n ≡ i + index_of f (drop i t) → b ≡ f (get_or t i 0) → b ≡ true → i ≡ n
     first_here n e p q = omega (arith, simp (sym p ∙ q) at first_peel)
@@ -62,7 +62,7 @@ module _ (f : ℕ → Bool) (t : List ℕ) (i : ℕ) where
 
 below_suc : (a b : ℕ) → ltb a b ≡ ltb (suc a) (suc b)
 below_suc a b =
-    ⊎_elim (λ h. lt_ltb a b h ∙ sym (lt_ltb (suc a) (suc b) (omega arith))) (λ h. le-ltb a b h ∙ sym (le-ltb (suc a) (suc b) (omega arith)))
+    ⊎_elim (λ h. lt-ltb a b h ∙ sym (lt-ltb (suc a) (suc b) (omega arith))) (λ h. le-ltb a b h ∙ sym (le-ltb (suc a) (suc b) (omega arith)))
     (lt_or_le a b)
 
 module _ {A : Type 0} (f : A → Bool) where
@@ -72,11 +72,11 @@ module _ {A : Type 0} (f : A → Bool) where
   any_first (x ∷ xs) = go (f x) (any_first xs)
     where
       go : (b : Bool) → any_of f xs ≡ ltb (index_of f xs) (length xs) → b || any_of f xs ≡ ltb (pick b 0 (suc (index_of f xs))) (suc (length xs))
-      go true e = sym (lt_ltb 0 (suc (length xs)) (omega arith))
+      go true e = sym (lt-ltb 0 (suc (length xs)) (omega arith))
       go false e = e ∙ below_suc (index_of f xs) (length xs)
 
   pub found : (xs : List A) → index_of f xs < length xs → any_of f xs ≡ true
-  found xs h = any_first xs ∙ lt_ltb (index_of f xs) (length xs) h
+  found xs h = any_first xs ∙ lt-ltb (index_of f xs) (length xs) h
 
   pub not_found : (xs : List A) → length xs ≤ index_of f xs → any_of f xs ≡ false
   not_found xs h = any_first xs ∙ le-ltb (index_of f xs) (length xs) h
@@ -147,7 +147,7 @@ module _ (a b : List ℕ) (i : ℕ) (e : same a b ≡ same (drop i a) (drop i b)
   module _ (h : i < length a) (g : i < length b) where
     same_peel : same (drop i a) (drop i b) ≡ eqb (get_or a i 0) (get_or b i 0) && same (drop (i + 1) a) (drop (i + 1) b)
     unfolding same
-    same_peel = rw (add-one, drop_cons a i 0 h, drop_cons b i 0 g)
+    same_peel = rw (add-one, drop-cons a i 0 h, drop-cons b i 0 g)
 
     pub same_no : (get_or a i 0 ≡ get_or b i 0 → ⊥) → false ≡ same a b
     same_no p = sym (e ∙ same_peel ∙ simp (ne_eqb _ _ p))

@@ -5,14 +5,14 @@ use mathlib.Core.List.{List}
 use Prim.Native.Nat.{ℕ, ◌-◌, ◌≤◌, ◌<◌}
 use native.Mathlib.Omega.{arith}
 use lib.ListN.{take, drop}
-use borrow.Author.Tests.{lt_ltb, le-ltb}
+use borrow.Author.Tests.{lt-ltb, le-ltb}
 use Rattle.live.specs.Live.{looked_by}
 use Rattle.live.specs.declared.Live.{Live}
 
 module _ {A : Type 0} (says : List ℕ → A) (past : A) (l : Live) where
   pub over : 256 < l.count → past ≡ looked_by says past l
   unfolding looked_by
-  over h = rw (lt_ltb 256 l.count h)
+  over h = rw (lt-ltb 256 l.count h)
 
   -- the part lent is the text held
   pub within : l.count ≤ 256 → says (take (l.count - 0) (drop 0 l.text)) ≡ looked_by says past l

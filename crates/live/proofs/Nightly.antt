@@ -8,7 +8,7 @@ use Prim.Native.Nat.{ℕ, ◌≤◌, ◌<◌}
 use native.Mathlib.Omega.{arith}
 use lib.Dec.{ltb}
 use lib.ListN.{length, take, replicate}
-use borrow.Author.Tests.{lt_ltb, le-ltb}
+use borrow.Author.Tests.{lt-ltb, le-ltb}
 use Rattle.lists.specs.Tests.{pick}
 use Rattle.lists.proofs.Laws.{by_test}
 use Rattle.normal.specs.Normal.{normal_form}
@@ -38,8 +38,8 @@ module _ (P : Permits) where
   pub past : (t : List ℕ) → 256 < length t → judged P t ≡ too_long P.known
   unfolding judged places_said shown padded too_long no_text
   past t h = by_test (λ b. P.known ≡ b → judged P t ≡ pick b (no_text 3 256) (no_text 25 0)) P.known
-      (λ p q. rw (text_front P t (front_3 P t (λ e. omega arith) h) q (λ e. omega arith), lt_ltb 256 (length t) h))
-      (λ p q. rw (text_25 P t q, lt_ltb 256 (length t) h)) refl
+      (λ p q. rw (text_front P t (front_3 P t (λ e. omega arith) h) q (λ e. omega arith), lt-ltb 256 (length t) h))
+      (λ p q. rw (text_25 P t q, lt-ltb 256 (length t) h)) refl
 
 -- for any editions: the state was given one of them, by its number
 module _ (E : ℕ → Permits) (e : ℕ) where

@@ -11,7 +11,7 @@ use native.Mathlib.Omega.{arith}
 use lib.ListN.{length, take, set, length-set, length-replicate, length-append}
 use lib.Seq.{take-suc-set, append_snoc}
 use lib.Dec.{ltb}
-use borrow.Author.Tests.{lt_ltb, le-ltb}
+use borrow.Author.Tests.{lt-ltb, le-ltb}
 use Rattle.lists.specs.Tests.{pick}
 use Rattle.lists.proofs.Laws.{lt_or_le}
 use Rattle.live.specs.Live.{fresh, stepped, typed, looked_by}
@@ -42,7 +42,7 @@ more t c = omega (arith, length-append t (c ∷ []))
 module _ (l : Live) (t : List ℕ) (c : ℕ) where
   room : Text l t → l.count < 256 → Holds (stepped l c) (t ++ c ∷ [])
   unfolding stepped
-  room h g = rw (lt_ltb l.count 256 g) (inl (record {
+  room h g = rw (lt-ltb l.count 256 g) (inl (record {
     array = length-set l.text l.count c ∙ h.array;
     count = omega (arith, more t c, h.count);
     few = omega (arith, more t c, h.count);
@@ -91,7 +91,7 @@ module _ {A : Type 0} (says : List ℕ → A) (over : A) (past : (t : List ℕ) 
   shows l t h =
       ⊎_elim
       (λ x. rw (le-ltb 256 l.count (omega (arith, x.count, x.few)), x.held))
-      (λ x. rw (lt_ltb 256 l.count (omega (arith, x.count))) (sym (past t x.many))) h
+      (λ x. rw (lt-ltb 256 l.count (omega (arith, x.count))) (sym (past t x.many))) h
 
   -- what is shown of all that was typed, as if it ended there
   pub live_is : (e : ℕ) (cs : List ℕ) → looked_by says over (typed (fresh e) cs) ≡ says cs

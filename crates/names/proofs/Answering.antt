@@ -9,7 +9,7 @@ use native.Mathlib.Omega.{arith}
 use lib.Dec.{eqb, ltb}
 use lib.ListN.{length, take, drop, get_or}
 use lib.Seq.{take_all}
-use borrow.Author.Tests.{eqb-true, ne_eqb, lt_ltb, le-ltb}
+use borrow.Author.Tests.{eqb-true, ne_eqb, lt-ltb, le-ltb}
 use Rattle.lists.specs.Tests.{pick, all_of, any_of}
 use Rattle.lists.specs.Front.{written}
 use Rattle.lists.specs.Rows.{Row, row, first, Clear}
@@ -46,7 +46,7 @@ module _ {R : Type 0} (make : Verdict → ℕ → R) (no : ℕ → ℕ → R) (m
   refuses rows {n} {p} q e h = record { gives = gives_no _ rows xs before e h (q ∙ sym (makes n p h) ∙ rw (ne_eqb n 0 h)) }
 
   no_room : (least : ℕ) (rest : List Row) {r : R} → r ≡ no 1 0 → length before < least → Answers make (row 1 (ltb (length before) least) 0 ∷ rest) text xs before before r
-  no_room least rest q h = refuses _ q (hit 1 (ltb (length before) least) 0 rest (lt_ltb (length before) least h)) (λ z. omega arith)
+  no_room least rest q h = refuses _ q (hit 1 (ltb (length before) least) 0 rest (lt-ltb (length before) least h)) (λ z. omega arith)
 
 answers_yes : {R : Type 0} (make : Verdict → ℕ → R) (rows : List Row) (text xs before : List ℕ) {k : Class} {n : ℕ} {after : List ℕ}
     → first rows ≡ record { number = 0; place = 0 } → k ≡ class_of (labels (normal_form text)) → n ≡ length xs → after ≡ written xs before

@@ -9,7 +9,7 @@ use Prim.Native.Nat.{ℕ, ◌-◌, ◌≤◌}
 use native.Mathlib.Omega.{arith}
 use lib.ListN.{length, take, drop, get_or, length-append}
 use lib.Seq.{take_at, take_all}
-use borrow.Author.Tests.{not-true, not_false}
+use borrow.Author.Tests.{not-true, not-false}
 use Rattle.lists.specs.Tests.{all_of, any_of, same}
 use Rattle.lists.specs.Front.{written}
 use Rattle.lists.specs.Rows.{Clear}
@@ -51,7 +51,7 @@ module _ (P : Permits) (f : List ℕ → Bool) (left : (l : List ℕ) → all_of
   of_passed (l ∷ m ∷ n ∷ []) N h a =
       let p = both (all_of (label_char P) l) _ a in
       let q = both (all_of (label_char P) m) _ p.1 in
-      (rw (left l p.0 N.left.few h, mid m q.0 (not_false (middle P m) N.mid), jp_last n N.last), omega arith)
+      (rw (left l p.0 N.left.few h, mid m q.0 (not-false (middle P m) N.mid), jp_last n N.last), omega arith)
   of_passed (l ∷ m ∷ n ∷ o ∷ ls) N h a =
       absurd (⊎_elim (λ e. omega arith) (λ e. omega arith) (two_or_three (length (l ∷ m ∷ n ∷ o ∷ ls)) P.three N.count))
 
@@ -109,7 +109,7 @@ module _ (P : Permits) (text : List ℕ) {lent form : List ℕ} {j : Ruled} (e :
   module _ (before : List ℕ) (h : 192 ≤ length before) where
     pub stopped : {a : AsciiForm} → a ≡ refused_form 14 0 → r.coded ≡ false → AsciiForms P text before before a
     stopped q n =
-        ascii_uncoded P text before h (accepted_as P text e z).clear q (not_false (any_of (uncoded P) (labels (normal_form text))) (sym put_form.coded ∙ n))
+        ascii_uncoded P text before h (accepted_as P text e z).clear q (not-false (any_of (uncoded P) (labels (normal_form text))) (sym put_form.coded ∙ n))
 
     pub finished : {after : List ℕ} {n : ℕ} {ks : Kinds} → r.coded ≡ true → n ≡ length (take (r.at - 0) (drop 0 last))
         → after ≡ take n (take (r.at - 0) (drop 0 last)) ++ drop n before → ks ≡ (held_in P (get_or (labels (take (j.length - 0) (drop 0 form))) 0 [])).kinds

@@ -9,7 +9,7 @@ use native.Mathlib.Numerals.{add-one, add-two}
 use native.Mathlib.Omega.{arith}
 use lib.ListN.{length, take, drop, set, length-drop, drop_of_length-le, take-append-drop}
 use lib.Seq.{take_all, drop-drop, sets-eq}
-use borrow.Author.Tests.{eq-eqb, ne_eqb, not-true, not_false}
+use borrow.Author.Tests.{eq-eqb, ne_eqb, not-true, not-false}
 use Rattle.lists.specs.Tests.{all_of, any_of, index_of}
 use Rattle.lists.specs.Front.{written, Puts}
 use Rattle.lists.proofs.Laws.{both, clash}
@@ -122,7 +122,7 @@ module _ (P : Permits) {form out₀ out : List ℕ} {from at : ℕ} (g : Naming 
     pub turn_refused : {after : List ℕ} → r.coded ≡ false → PutsWhere (not (any_of (uncoded P) (labels form))) (ascii_form P form) out₀ after 0 r
     unfolding any_of
     turn_refused p =
-        let u : uncoded P this ≡ true = not_false (uncoded P this) (sym t.coded ∙ p) in
+        let u : uncoded P this ≡ true = not-false (uncoded P this) (sym t.coded ∙ p) in
         let any : any_of (uncoded P) (labels form) ≡ true = sym g.told ∙ ends (λ rest q. rw (q, u)) in
         record { coded = p ∙ rw any; put = λ q. clash q p }
 

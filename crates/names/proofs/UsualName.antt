@@ -9,8 +9,8 @@ use native.Mathlib.Numerals.{add-one, add-two}
 use native.Mathlib.Omega.{arith}
 use lib.Dec.{eqb}
 use lib.ListN.{length, take, drop, get_or, set, length-append, take-append-drop, drop_of_length-le}
-use lib.Seq.{drop_cons}
-use borrow.Author.Tests.{eqb-false, eq-eqb, ne_eqb, not-true, not_false}
+use lib.Seq.{drop-cons}
+use borrow.Author.Tests.{eqb-false, eq-eqb, ne_eqb, not-true, not-false}
 use Rattle.lists.specs.Tests.{within, all_of, any_of, elem, same}
 use Rattle.lists.specs.Front.{written}
 use Rattle.lists.specs.Rows.{first, Clear}
@@ -102,9 +102,9 @@ module _ (text : List ℕ) where
     last_three =
         let n = length text - 3 in
         rw (add-one n, add-two n) (
-        drop_cons text n 0 (omega arith)
-        ∙ ap (λ (l : List ℕ). get_or text n 0 ∷ l) (drop_cons text (suc n) 0 (omega arith)
-        ∙ ap (λ (l : List ℕ). get_or text (suc n) 0 ∷ l) (drop_cons text (suc (suc n)) 0 (omega arith)
+        drop-cons text n 0 (omega arith)
+        ∙ ap (λ (l : List ℕ). get_or text n 0 ∷ l) (drop-cons text (suc n) 0 (omega arith)
+        ∙ ap (λ (l : List ℕ). get_or text (suc n) 0 ∷ l) (drop-cons text (suc (suc n)) 0 (omega arith)
         ∙ ap (λ (l : List ℕ). get_or text (suc (suc n)) 0 ∷ l) (drop_of_length-le text {i = suc (suc (suc n))} (omega arith)))))
 
     told : ends_in_jp text
@@ -223,7 +223,7 @@ module _ (P : Permits) (stretch : InStretch P) (shorts : ShortMiddles P) (marks 
 
         pub usual_uncoded : {r' : AsciiForm} → 192 ≤ length before → r.coded ≡ false → r' ≡ refused_form 14 0 → AsciiForms P text before after r'
         usual_uncoded room y q =
-            rw (t.kept y) (ascii_uncoded P text before room clears q (uncoded_is ∙ not_false (uncoded P label) (sym t.puts.coded ∙ y)))
+            rw (t.kept y) (ascii_uncoded P text before room clears q (uncoded_is ∙ not-false (uncoded P label) (sym t.puts.coded ∙ y)))
 
         module _ (y : r.coded ≡ true) where
           taken : uncoded P label ≡ false

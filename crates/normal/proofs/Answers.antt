@@ -6,7 +6,7 @@ use mathlib.Core.List.{List}
 use Prim.Native.Nat.{ℕ, ◌≤◌, ◌<◌}
 use lib.ListN.{length}
 use lib.Dec.{eqb}
-use borrow.Author.Tests.{lt_ltb, le-ltb, eq-eqb, ne_eqb, eqb-false}
+use borrow.Author.Tests.{lt-ltb, le-ltb, eq-eqb, ne_eqb, eqb-false}
 use Rattle.lists.specs.Front.{written}
 use Rattle.lists.specs.Rows.{accepted}
 use Rattle.lists.specs.declared.Answer.{Answer}
@@ -28,7 +28,7 @@ module _ (text before : List ℕ) where
 
   pub no_room : length before < 256 → Normalises text before before (record { number = 1; place = 0; length = 0 })
   unfolding answer rows
-  no_room h = refused (refusal 1 0) (hit 1 _ 0 _ (lt_ltb _ _ h)) refl
+  no_room h = refused (refusal 1 0) (hit 1 _ 0 _ (lt-ltb _ _ h)) refl
 
   module _ (h : 256 ≤ length before) where
     pub no_text : length text ≡ 0 → Normalises text before before (record { number = 2; place = 0; length = 0 })
@@ -40,7 +40,7 @@ module _ (text before : List ℕ) where
       unfolding answer rows
       too_long l =
           refused (refusal 3 256)
-          (passed_over 1 _ 0 _ (le-ltb _ _ h) ∙ passed_over 2 _ 0 _ (ne_eqb _ _ n) ∙ hit 3 _ 256 _ (lt_ltb _ _ l)) refl
+          (passed_over 1 _ 0 _ (le-ltb _ _ h) ∙ passed_over 2 _ 0 _ (ne_eqb _ _ n) ∙ hit 3 _ 256 _ (lt-ltb _ _ l)) refl
 
       pub no_refusal : length text ≤ 256 → answer text (length before) ≡ accepted
       unfolding answer rows

@@ -7,7 +7,7 @@ use Prim.Native.Nat.{ℕ, suc, ◌+◌, ◌-◌, ◌≤◌, ◌<◌}
 use native.Mathlib.Numerals.{add-one}
 use native.Mathlib.Omega.{arith}
 use lib.ListN.{length, take, drop, get_or, set, length-set, length-append, drop_of_length-le}
-use lib.Seq.{append_snoc, drop_cons, take-suc-set, drop-set-lt, drop-drop, set_split, length-take-le}
+use lib.Seq.{append_snoc, drop-cons, take-suc-set, drop-set-lt, drop-drop, set_split, length-take-le}
 use borrow.Author.Tests.{eq-eqb, ne_eqb}
 use Rattle.lists.specs.Front.{Puts}
 use Rattle.characters.specs.Replace.{replace}
@@ -52,7 +52,7 @@ module _ (text : List ℕ) (last start i : ℕ) where
   module _ {x : ℕ} (h : i < length text) (ex : x ≡ replace (get_or text i 0)) where
     next : pending last start i text ≡ compose (placed last start ∷ placed x i ∷ replaced_from (i + 1) (drop (i + 1) text))
     unfolding replaced_from
-    next = rw (ex, add-one, drop_cons text i 0)
+    next = rw (ex, add-one, drop-cons text i 0)
 
     pending_stays : composed last x ≡ 0 → pending last start i text ≡ placed last start ∷ pending x i (i + 1) text
     pending_stays e = next ∙ stays (placed last start) (placed x i) _ e

@@ -10,7 +10,7 @@ use native.Mathlib.Omega.{arith}
 use lib.Dec.{eqb}
 use lib.ListN.{length, take, drop, length-take, length-drop, drop_of_length-le}
 use lib.Seq.{take_all, take-length}
-use borrow.Author.Tests.{lt_ltb, le-ltb, le-leb, lt-leb}
+use borrow.Author.Tests.{lt-ltb, le-ltb, le-leb, lt-leb}
 use Rattle.lists.proofs.Fronts.{untouched}
 use Rattle.lists.proofs.Laws.{both, same_refl, same_is}
 use Rattle.lists.specs.Front.{written}
@@ -41,7 +41,7 @@ module _ (l before : List ℕ) (r : Encoded) where
       record { answer = rw (w, e) p; buffer = rw w (sym (untouched before)) }
 
   pub encodes_short : length before < 63 → r ≡ coder_answers 1 [] → Encodes l before before r
-  encodes_short h p = refuses 1 (unfold coder_number in rw (lt_ltb (length before) 63 h)) refl p
+  encodes_short h p = refuses 1 (unfold coder_number in rw (lt-ltb (length before) 63 h)) refl p
 
   module _ (room : 63 ≤ length before) where
     pub encodes_unfit : encodable l ≡ false → r ≡ coder_answers 13 [] → Encodes l before before r

@@ -12,7 +12,7 @@ use native.Mathlib.Nat.{div-le_self, div-lt_iff_lt-mul, le-div_iff_mul-le, mul-l
 use native.Mathlib.Omega.{arith}
 use lib.Dec.{eqb, leb, ltb}
 use lib.ListN.{length, get_or, length-append}
-use borrow.Author.Tests.{lt_ltb, le-ltb, le-leb, lt-leb, ne_eqb, eq-eqb, leb-true}
+use borrow.Author.Tests.{lt-ltb, le-ltb, le-leb, lt-leb, ne_eqb, eq-eqb, leb-true}
 use Rattle.lists.proofs.Laws.{both, in_range, all_append, clash}
 use Rattle.lists.specs.Tests.{pick, within, all_of}
 use Rattle.punycode.specs.Order.{keys_at, keys_from, keys, due, run, first, Climbs, step}
@@ -39,7 +39,7 @@ cap_digits (suc k) (suc f) bias j q h =
     let t = threshold j bias in
     let b = threshold_bounds j bias in
     split q t
-    (λ l. rw (lt_ltb q t l) (omega arith))
+    (λ l. rw (lt-ltb q t l) (omega arith))
     (λ g.
     let m = mul_comm (cap k bias (j + 36)) (36 - t) in
     let l : (q - t) / (36 - t) < cap k bias (j + 36) = (div-lt_iff_lt-mul {k = 36 - t} {x = q - t} {y = cap k bias (j + 36)} (omega (arith, b.1))).1 (omega arith) in
@@ -66,7 +66,7 @@ loop_from : (f k d : ℕ) → k ≤ adapt_loop f k d
 unfolding adapt_loop
 loop_from zero k d = omega arith
 loop_from (suc f) k d = split 455 d
-    (λ l. rw (lt_ltb 455 d l) (omega (arith, loop_from f (k + 36) (d / 35))))
+    (λ l. rw (lt-ltb 455 d l) (omega (arith, loop_from f (k + 36) (d / 35))))
     (λ g. rw (le-ltb 455 d g) (omega arith))
 
 share_low : (x : ℕ) → 38 ≤ x → 18 ≤ 36 * x / (x + 38)
@@ -149,12 +149,12 @@ fits_at (suc j) bias k l u t g =
 
 top_most : (h : ℕ) → (98 ≤ top h) × (top h ≤ 101)
 unfolding top
-top_most h = split h 9 (λ l. rw (lt_ltb h 9 l) (omega arith, omega arith)) (λ g. rw (le-ltb h 9 g) (omega arith, omega arith))
+top_most h = split h 9 (λ l. rw (lt-ltb h 9 l) (omega arith, omega arith)) (λ g. rw (le-ltb h 9 g) (omega arith, omega arith))
 
 pot_low : (n bias : ℕ) → n ≤ 15 → pot n bias ≤ low n
 unfolding pot
 pot_low n bias h = split bias 54
-    (λ l. rw (lt_ltb bias 54 l) (omega arith))
+    (λ l. rw (lt-ltb bias 54 l) (omega arith))
     (λ g. rw (le-ltb bias 54 g) (leb-true (high n) (low n) (up_at 16 (λ x. leb (high x) (low x)) n lower_all (omega arith))))
 
 adapt_low : (d n : ℕ) → 2660 ≤ d → 54 ≤ adapt d n false
@@ -166,7 +166,7 @@ unfolding adapt damped top
 adapt_top d n l u h =
     let s : d / 2 / n < 14295 = (div-lt_iff_lt-mul {k = n} {x = d / 2} {y = 14295} (omega arith)).1 (omega arith) in
     split n 9
-    (λ g. rw (lt_ltb n 9 g) (omega (arith, loop_high (d / 2 + d / 2 / n) (d / 2 + d / 2 / n) 27 (omega arith) (omega arith) (omega arith))))
+    (λ g. rw (lt-ltb n 9 g) (omega (arith, loop_high (d / 2 + d / 2 / n) (d / 2 + d / 2 / n) 27 (omega arith) (omega arith) (omega arith))))
     (λ g. rw (le-ltb n 9 g) (omega (arith, loop_high (d / 2 + d / 2 / n) (d / 2 + d / 2 / n) 30 (omega arith) (omega arith) (omega arith))))
 
 adapt_first : (d n : ℕ) → d < 1000000 → adapt d n true ≤ top n
@@ -262,7 +262,7 @@ at_good m k [] h few e = refl
 at_good m k (c ∷ l) h few e =
     let v = both (near c) (all_of near l) e in
     split c m
-    (λ y. rw (lt_ltb c m y) (at_good m (k + 1) l h (omega arith) v.1))
+    (λ y. rw (lt-ltb c m y) (at_good m (k + 1) l h (omega arith) v.1))
     (λ g. split m c
     (λ y. rw (le-ltb c m g, ne_eqb c m (omega arith)) (at_good m k l h (omega arith) v.1))
     (λ y.

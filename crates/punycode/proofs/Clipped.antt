@@ -9,8 +9,8 @@ use native.Mathlib.Numerals.{add-one}
 use native.Mathlib.Omega.{arith}
 use lib.Dec.{eqb}
 use lib.ListN.{length, get_or, take, drop, set, length-append, length-take, drop_of_length-le}
-use lib.Seq.{drop_cons, take-suc-set, take-append-le, length-take-le, take_all, take-take, append_snoc}
-use borrow.Author.Tests.{lt_ltb, le-ltb, ne_eqb, eq-eqb}
+use lib.Seq.{drop-cons, take-suc-set, take-append-le, length-take-le, take_all, take-take, append_snoc}
+use borrow.Author.Tests.{lt-ltb, le-ltb, ne_eqb, eq-eqb}
 use Rattle.lists.proofs.Laws.{no_entries}
 use Rattle.punycode.specs.Inner.{kept, held}
 use Rattle.punycode.specs.Order.{due, run, first, Climbs, step}
@@ -56,7 +56,7 @@ stays out at x h q = rw (q, append-nil) (sym (clip_again at out h))
 pub adapt_next : (f k d : ℕ) → d ≤ f → 455 < d → (g : ℕ) × (d / 35 ≤ g) × (adapt_loop f k d ≡ adapt_loop g (k + 36) (d / 35))
 unfolding adapt_loop
 adapt_next zero k d h l = absurd (omega arith)
-adapt_next (suc f) k d h l = (f, omega arith, rw (lt_ltb 455 d l))
+adapt_next (suc f) k d h l = (f, omega arith, rw (lt-ltb 455 d l))
 
 pub adapt_end : (f k d : ℕ) → d ≤ 455 → adapt_loop f k d ≡ k + 36 * d / (d + 38)
 unfolding adapt_loop
@@ -77,7 +77,7 @@ varint_next (suc f) bias k q t h e l g = (f, omega (arith, div-le_self (q - t) (
 varint_end : (f bias k q t : ℕ) → q < f → t ≡ threshold k bias → q < t → varint f bias k q ≡ digit q ∷ []
 unfolding varint
 varint_end zero bias k q t h e l = absurd (omega arith)
-varint_end (suc f) bias k q t h e l = rw (← e, lt_ltb q t l)
+varint_end (suc f) bias k q t h e l = rw (← e, lt-ltb q t l)
 
 -- a turn of the loop that writes an integer, and what follows the loop: `b` is written, then `a`
 module _ (f bias k q t : ℕ) (a b total : List ℕ) (d : ℕ) (enough : q < f) (is : t ≡ threshold k bias) (wrote : a ≡ b ++ (d ∷ []))
@@ -152,7 +152,7 @@ run_first p b keys e = ap (λ (x : List ℕ). take 64 (run b keys 128 0 (record 
 module _ (b : ℕ) (keys : List ℕ) (j n i : ℕ) (s : Enc) where
   pub climbs_next : j < length keys → Climbs n i s.h (drop j keys) → let x = get_or keys j 0 in
       (n ≤ x / 64) × (i ≤ (x / 64 - n) * (s.h + 1) + x % 64) × (x < 0x4400000) × Climbs (x / 64) (x % 64 + 1) (s.h + 1) (drop (j + 1) keys)
-  climbs_next h v = rw (add-one j) (go (rw (drop_cons keys j 0 h) at v))
+  climbs_next h v = rw (add-one j) (go (rw (drop-cons keys j 0 h) at v))
     where
       go : {x : ℕ} {xs : List ℕ} → Climbs n i s.h (x ∷ xs) → (n ≤ x / 64) × (i ≤ (x / 64 - n) * (s.h + 1) + x % 64) × (x < 0x4400000) × Climbs (x / 64) (x % 64 + 1) (s.h + 1) xs
       go (step p q r w) = (p, q, r, w)
@@ -164,13 +164,13 @@ module _ (b : ℕ) (keys : List ℕ) (j n i : ℕ) (s : Enc) where
       → e ≡ kept [] (emit b (due ((get_or keys j 0 / 64 - n) * (s.h + 1) + get_or keys j 0 % 64 - i) s)) → take 64 (run b (drop j keys) n i s) ≡ total
       → take 64 (run b (drop (j + 1) keys) (get_or keys j 0 / 64) (get_or keys j 0 % 64 + 1) e) ≡ total
   unfolding run
-  run_next e total h p q = rw (p, run_kept, add-one j) (rw (drop_cons keys j 0 h) at q)
+  run_next e total h p q = rw (p, run_kept, add-one j) (rw (drop-cons keys j 0 h) at q)
 
   -- of the last key only the integer is asked
   pub run_last : (total : List ℕ) → j + 1 ≡ length keys → let d = (get_or keys j 0 / 64 - n) * (s.h + 1) + get_or keys j 0 % 64 - i in
       take 64 (run b (drop j keys) n i s) ≡ total → take 64 (s.out ++ varint (suc d) s.bias 36 d) ≡ total
   unfolding run emit due
-  run_last total h q = rw (drop_cons keys j 0 (omega arith), drop_of_length-le keys {i = suc j} (omega arith)) at q
+  run_last total h q = rw (drop-cons keys j 0 (omega arith), drop_of_length-le keys {i = suc j} (omega arith)) at q
 
   pub run_end : (total : List ℕ) → length keys ≤ j → take 64 (run b (drop j keys) n i s) ≡ total → take 64 s.out ≡ total
   unfolding run
@@ -184,7 +184,7 @@ module _ (p l : List ℕ) (j : ℕ) (text : List ℕ) (v : take 64 (text ++ belo
       → take 64 (text' ++ below 128 (drop (j + 1) l)) ≡ take 64 (p ++ below 128 l)
   basics_next text' h r =
       let e : below 128 (drop j l) ≡ below 128 (get_or l j 0 ∷ []) ++ below 128 (drop (j + 1) l) =
-      rw (drop_cons l j 0 h, add-one j) (below_append 128 (get_or l j 0 ∷ []) (drop (suc j) l)) in
+      rw (drop-cons l j 0 h, add-one j) (below_append 128 (get_or l j 0 ∷ []) (drop (suc j) l)) in
       rw (r, clip_append, append_assoc, ← e) v
 
   pub basics_end : (b : ℕ) (text' : List ℕ) → length l ≤ j → (b ≡ 0 → ⊥) → text' ≡ take 64 (text ++ (45 ∷ [])) → text' ≡ take 64 (p ++ below 128 l ++ delimiter b)

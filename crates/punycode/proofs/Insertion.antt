@@ -9,7 +9,7 @@ use native.Mathlib.Omega.{arith}
 use lib.Dec.{eqb}
 use lib.ListN.{length, length-append}
 use lib.Seq.{take-append_seam, drop-append_seam, append_snoc}
-use borrow.Author.Tests.{lt_ltb, le-ltb, ne_eqb, eq-eqb}
+use borrow.Author.Tests.{lt-ltb, le-ltb, ne_eqb, eq-eqb}
 use Rattle.lists.proofs.Laws.{all_append}
 use Rattle.lists.specs.Tests.{all_of}
 use Rattle.punycode.specs.Decoding.{Dec, reading, insert, place, octet, octets}
@@ -41,7 +41,7 @@ module _ (n k i delta : ℕ) (pre post : List ℕ) (small : n + k < 0x110000)
       rw (
         quotient k (length (pre ++ post) + 1) (length pre) (i + delta) l steps,
         remainder k (length (pre ++ post) + 1) (length pre) (i + delta) l steps,
-        lt_ltb (n + k) 0x110000 small,
+        lt-ltb (n + k) 0x110000 small,
         add-sub_cancel_left i delta,
         take-append_seam pre post,
         drop-append_seam pre post,
@@ -65,7 +65,7 @@ module _ (start : Dec) (b n k i : ℕ) (pre post : List ℕ) (s : Enc) (reads : 
 pub length_below : (m : ℕ) (l : List ℕ) → length (below m l) ≤ length l
 unfolding below
 length_below m [] = omega arith
-length_below m (c ∷ l) = let ih = length_below m l in split c m (λ h. rw (lt_ltb c m h) (omega arith)) (λ h. rw (le-ltb c m h) (omega arith))
+length_below m (c ∷ l) = let ih = length_below m l in split c m (λ h. rw (lt-ltb c m h) (omega arith)) (λ h. rw (le-ltb c m h) (omega arith))
 
 -- The decoder `start`, fed what the encoder has written, stands where the encoder does. The encoder is in its pass for m: `rest` is the input
 -- that is still to pass, `pre` is what is at most m of the input passed, and the decoder's output is `pre` and what is below m of the rest.
@@ -85,7 +85,7 @@ module _ (start : Dec) (b m : ℕ) (pre rest : List ℕ) (s : Enc) where
   inv_low : (c : ℕ) → c < m → Inv start b m pre (c ∷ rest) s → Inv start b m (pre ++ (c ∷ [])) rest (add 1 s)
   unfolding add below
   inv_low c l v =
-      let e : below m (c ∷ rest) ≡ c ∷ below m rest = rw (lt_ltb c m l) in
+      let e : below m (c ∷ rest) ≡ c ∷ below m rest = rw (lt-ltb c m l) in
       record {
         n = v.n;
         k = v.k;
@@ -147,13 +147,13 @@ module _ (start : Dec) (b m : ℕ) (small : m < 0x110000) where
   points_step c rest pre s few v ih =
       let few' : length (pre ++ (c ∷ [])) + length rest ≤ 63 = omega (arith, length-append pre (c ∷ [])) in
       split c m
-      (λ l. rw (lt_ltb c m l, lt_ltb c (m + 1) (omega arith))
+      (λ l. rw (lt-ltb c m l, lt-ltb c (m + 1) (omega arith))
       (rw append_snoc at (ih (pre ++ (c ∷ [])) (add 1 s) few' (inv_low start b m pre rest s c l v))))
       (λ g. split m c
       (λ l. rw (le-ltb c m g, ne_eqb c m (omega arith), le-ltb c (m + 1) (omega arith))
       (ih pre s (omega arith) (inv_high start b m pre rest s c l v)))
       (λ l. let e : c ≡ m = omega arith in
-      rw (le-ltb c m g, eq-eqb c m e, lt_ltb c (m + 1) (omega arith))
+      rw (le-ltb c m g, eq-eqb c m e, lt-ltb c (m + 1) (omega arith))
       (rw append_snoc at (ih (pre ++ (c ∷ [])) (emit b s) few' (inv_at start b m pre rest s c e (omega arith) (omega arith) v)))))
 
   pub points_inv : (rest pre : List ℕ) (s : Enc) → length pre + length rest ≤ 63 → Inv start b m pre rest s

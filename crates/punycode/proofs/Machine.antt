@@ -9,8 +9,8 @@ use native.Mathlib.Numerals.{add-one}
 use native.Mathlib.Omega.{arith}
 use lib.Dec.{eqb}
 use lib.ListN.{length, get_or, take, drop, set, length-set, drop_of_length-le, get_or-map}
-use lib.Seq.{drop_cons, take-suc-set, take-take, drop-set-lt, append_snoc, length-take-le, get_or-take, take-suc}
-use borrow.Author.Tests.{lt_ltb, le-ltb}
+use lib.Seq.{drop-cons, take-suc-set, take-take, drop-set-lt, append_snoc, length-take-le, get_or-take, take-suc}
+use borrow.Author.Tests.{lt-ltb, le-ltb}
 use Rattle.lists.specs.Tests.{within}
 use Rattle.punycode.specs.Calls.{lower}
 use Rattle.punycode.specs.Decoding.{value, Dec, reading, insert, place, octet, octets, mark, last_delimiter, label, decode}
@@ -37,10 +37,10 @@ module _ (out₀ : List ℕ) (len p x : ℕ) where
     moving_next l =
         let size = v.size in
         let cons : get_or out j 0 ∷ drop (suc j) out ≡ get_or out₀ j 0 ∷ drop (suc j) out₀ =
-        sym (drop_cons out j 0 (omega arith)) ∙ v.rest ∙ drop_cons out₀ j 0 (omega arith) in
+        sym (drop-cons out j 0 (omega arith)) ∙ v.rest ∙ drop-cons out₀ j 0 (omega arith) in
         let same : get_or (take len out₀) j 0 ≡ get_or out j 0 = get_or-take len out₀ j 0 l ∙ sym (head-eq_of_cons-eq cons) in
         let next : drop j (take len out₀) ≡ get_or out j 0 ∷ drop (suc j) (take len out₀) =
-        drop_cons (take len out₀) j 0 (omega (arith, length-take-le len out₀ (omega arith))) ∙ rw same in
+        drop-cons (take len out₀) j 0 (omega (arith, length-take-le len out₀ (omega arith))) ∙ rw same in
         record {
           from = omega (arith, v.from);
           upto = omega arith;
@@ -67,7 +67,7 @@ module _ (n : ℕ) (out : List ℕ) (len oldi i : ℕ) (sized : length out ≡ l
       → text ≡ insert (i % (len + 1)) (n + i / (len + 1)) out
       → reading (n + i / (len + 1)) bias text (i % (len + 1) + 1) (i % (len + 1) + 1) 1 36 ≡ place n out oldi i
   unfolding place
-  place_done bias text h p q = rw (sized, lt_ltb (n + i / (len + 1)) 0x110000 h, p, q)
+  place_done bias text h p q = rw (sized, lt-ltb (n + i / (len + 1)) 0x110000 h, p, q)
 
 -- ---- an octet
 
@@ -84,7 +84,7 @@ module _ (c : ℕ) (s : Reader) (text : List ℕ) where
 
       pub octet_over : (p : ℕ) → p ≡ min (d * s.w) 0x4400000 → d < 36 → 0x4400000 ≤ s.i + p → read r text' ≡ octet c (read s text)
       unfolding read octet
-      octet_over p p-is h g = rw (is, stops, ← d-is, lt_ltb d 36 h, le-ltb (s.i + d * s.w) 0x4400000 (omega arith))
+      octet_over p p-is h g = rw (is, stops, ← d-is, lt-ltb d 36 h, le-ltb (s.i + d * s.w) 0x4400000 (omega arith))
 
     module _ (small : d < 36) (p : ℕ) (p-is : p ≡ min (d * s.w) 0x4400000) (fits : s.i + p < 0x4400000) (t : ℕ) (t-is : t ≡ threshold s.k s.bias) where
       weight : d * s.w ≡ p
@@ -92,11 +92,11 @@ module _ (c : ℕ) (s : Reader) (text : List ℕ) where
 
       pub octet_last : (x : Dec) → d < t → x ≡ place s.n (take s.len text) s.oldi (s.i + p) → x ≡ octet c (read s text)
       unfolding read octet
-      octet_last x h e = rw (is, ← d-is, ← t-is, weight, lt_ltb d 36 small, lt_ltb (s.i + p) 0x4400000 fits, lt_ltb d t h) e
+      octet_last x h e = rw (is, ← d-is, ← t-is, weight, lt-ltb d 36 small, lt-ltb (s.i + p) 0x4400000 fits, lt-ltb d t h) e
 
       pub octet_more : t ≤ d → reading s.n s.bias (take s.len text) s.oldi (s.i + p) (s.w * (36 - t)) (s.k + 36) ≡ octet c (read s text)
       unfolding read octet
-      octet_more h = rw (is, ← d-is, ← t-is, weight, lt_ltb d 36 small, lt_ltb (s.i + p) 0x4400000 fits, le-ltb d t h)
+      octet_more h = rw (is, ← d-is, ← t-is, weight, lt-ltb d 36 small, lt-ltb (s.i + p) 0x4400000 fits, le-ltb d t h)
 
       -- a digit that is not the last is at least 1, so that its weight is small
       pub octet_fits : t ≤ d → 1 ≤ t → s.w * (36 - t) ≤ 35 * 0x4400000
@@ -110,7 +110,7 @@ module _ (c : ℕ) (s : Reader) (text : List ℕ) where
 module _ (e : List ℕ) (j : ℕ) where
   pub octets_next : (s s' total : Dec) → j < length e → s' ≡ octet (get_or e j 0) s → octets (drop j e) s ≡ total → octets (drop (j + 1) e) s' ≡ total
   unfolding octets
-  octets_next s s' total l p q = rw (p, add-one j) (rw (drop_cons e j 0 l) at q)
+  octets_next s s' total l p q = rw (p, add-one j) (rw (drop-cons e j 0 l) at q)
 
   pub octets_end : (s total : Dec) → length e ≤ j → octets (drop j e) s ≡ total → s ≡ total
   unfolding octets
@@ -118,7 +118,7 @@ module _ (e : List ℕ) (j : ℕ) where
 
   pub last_next : (r r' total : ℕ) → j < length e → r' ≡ mark (get_or e j 0) j r → last_delimiter j r (drop j e) ≡ total → last_delimiter (j + 1) r' (drop (j + 1) e) ≡ total
   unfolding last_delimiter
-  last_next r r' total l p q = rw p (rw (drop_cons e j 0 l, ← add-one j) at q)
+  last_next r r' total l p q = rw p (rw (drop-cons e j 0 l, ← add-one j) at q)
 
   pub last_end : (r total : ℕ) → length e ≤ j → last_delimiter j r (drop j e) ≡ total → r ≡ total
   unfolding last_delimiter

@@ -7,7 +7,7 @@ use Prim.Native.Nat.{ℕ, zero, suc, ◌+◌, ◌-◌, ◌*◌, ◌/◌, ◌%◌
 use native.Mathlib.Decide.{dec_lt}
 use native.Mathlib.Nat.{div-add-mod', div-le_self, mul-le-mul_right, mod-lt, not-suc-le-zero}
 use native.Mathlib.Omega.{arith}
-use borrow.Author.Tests.{lt_ltb, le-ltb, le-leb, lt-leb}
+use borrow.Author.Tests.{lt-ltb, le-ltb, le-leb, lt-leb}
 use Rattle.lists.proofs.Laws.{inside, outside}
 use Rattle.lists.specs.Tests.{all_of}
 use Rattle.punycode.specs.Decoding.{value, reading, place, octet, octets}
@@ -42,7 +42,7 @@ module _ (k bias : ℕ) where
 module _ (d : ℕ) where
   pub digit_low : d < 26 → d + 0x61 ≡ digit d
   unfolding digit
-  digit_low h = rw (lt_ltb d 26 h)
+  digit_low h = rw (lt-ltb d 26 h)
 
   pub digit_high : 26 ≤ d → d - 26 + 0x30 ≡ digit d
   unfolding digit
@@ -67,7 +67,7 @@ varint_alnum (suc f) bias k q =
     let t = threshold k bias in
     let high = (threshold_bounds k bias).1 in
     split q t
-    (λ l. rw (lt_ltb q t l, alnum_digit q (omega arith)))
+    (λ l. rw (lt-ltb q t l, alnum_digit q (omega arith)))
     (λ g.
     rw (le-ltb q t g, alnum_digit (t + (q - t) % (36 - t)) (omega (arith, mod-lt (q - t) {m = 36 - t} (omega arith))))
     (varint_alnum f bias (k + 36) ((q - t) / (36 - t))))
@@ -80,20 +80,20 @@ module _ (n bias : ℕ) (out : List ℕ) (oldi : ℕ) where
   unfolding octet
   octet_last i w k d l fits =
       let h : d < 36 = omega (arith, (threshold_bounds k bias).1) in
-      rw (value_digit d h, lt_ltb d 36 h, lt_ltb (i + d * w) 0x4400000 fits, lt_ltb d (threshold k bias) l)
+      rw (value_digit d h, lt-ltb d 36 h, lt-ltb (i + d * w) 0x4400000 fits, lt-ltb d (threshold k bias) l)
 
   octet_more : (i w k d : ℕ) → threshold k bias ≤ d → d < 36 → i + d * w < 0x4400000
       → octet (digit d) (reading n bias out oldi i w k) ≡ reading n bias out oldi (i + d * w) (w * (36 - threshold k bias)) (k + 36)
   unfolding octet
   octet_more i w k d g h fits =
-      rw (value_digit d h, lt_ltb d 36 h, lt_ltb (i + d * w) 0x4400000 fits, le-ltb d (threshold k bias) g)
+      rw (value_digit d h, lt-ltb d 36 h, lt-ltb (i + d * w) 0x4400000 fits, le-ltb d (threshold k bias) g)
 
   pub varint_read : (f k q i w : ℕ) → q < f → i + q * w < 0x4400000
       → octets (varint f bias k q) (reading n bias out oldi i w k) ≡ place n out oldi (i + q * w)
   unfolding octets varint
   varint_read zero k q i w lt fits = absurd (not-suc-le-zero lt)
   varint_read (suc f) k q i w lt fits = split q (threshold k bias)
-      (λ l. rw (lt_ltb q (threshold k bias) l) (octet_last i w k q l fits))
+      (λ l. rw (lt-ltb q (threshold k bias) l) (octet_last i w k q l fits))
       (λ g.
       let t = threshold k bias in
       let d = t + (q - t) % (36 - t) in

@@ -9,7 +9,7 @@ use native.Mathlib.Nat.{add-mul, add-sub_cancel}
 use native.Mathlib.Omega.{arith}
 use lib.ListN.{length}
 use lib.Seq.{append_snoc, take-append_seam, drop-append-add}
-use borrow.Author.Tests.{lt_ltb, le-ltb, le-leb, lt-leb, ne_eqb, eq-eqb}
+use borrow.Author.Tests.{lt-ltb, le-ltb, le-leb, lt-leb, ne_eqb, eq-eqb}
 use Rattle.lists.proofs.Laws.{both}
 use Rattle.lists.specs.Tests.{within, all_of}
 use Rattle.punycode.specs.Decoding.{Dec, reading, octets, mark, last_delimiter, label, decode}
@@ -24,13 +24,13 @@ unfolding nearer
 nearer_is n c m h = split c n
     (λ l. rw (lt-leb n c l) (h, omega arith, λ g. omega arith))
     (λ g. split c m
-    (λ l. rw (le-leb n c g, lt_ltb c m l) (g, omega arith, λ e. omega arith))
+    (λ l. rw (le-leb n c g, lt-ltb c m l) (g, omega arith, λ e. omega arith))
     (λ k. rw (le-leb n c g, le-ltb c m k) (h, omega arith, λ e. omega arith)))
 
 below_cons : (n m c : ℕ) (l : List ℕ) → n ≤ m → (n ≤ c → m ≤ c) → below m l ≡ below n l → below m (c ∷ l) ≡ below n (c ∷ l)
 unfolding below
 below_cons n m c l h k e = split c n
-    (λ x. rw (lt_ltb c n x, lt_ltb c m (omega arith), e))
+    (λ x. rw (lt-ltb c n x, lt-ltb c m (omega arith), e))
     (λ x. let y = k x in rw (le-ltb c n x, le-ltb c m y, e))
 
 -- r is the least of l from n on, but at most m
@@ -64,7 +64,7 @@ below_all : (n : ℕ) (l : List ℕ) → length l ≤ length (below n l) → bel
 unfolding below
 below_all n [] h = refl
 below_all n (c ∷ l) h = split c n
-    (λ x. let h' : length l ≤ length (below n l) = omega (arith, rw (lt_ltb c n x) at h) in rw (lt_ltb c n x, below_all n l h'))
+    (λ x. let h' : length l ≤ length (below n l) = omega (arith, rw (lt-ltb c n x) at h) in rw (lt-ltb c n x, below_all n l h'))
     (λ x. absurd (omega (arith, rw (le-ltb c n x) at h, length_below n l)))
 
 -- ---- the outer loop
@@ -124,7 +124,7 @@ module _ (start : Dec) (b : ℕ) (l : List ℕ) (few : length l ≤ 63) (bounded
       let m = least n l 0x110000 in
       let w = least_is n l 0x110000 g in
       let under = least_under l bounded n s.h g v.count x in
-      rw (lt_ltb s.h (length l) x)
+      rw (lt-ltb s.h (length l) x)
       (next (m + 1) _ (omega arith) (omega arith) (wrap m _ (points_inv start b m under l [] _ (omega arith) (rise n m s w.low w.same v)))))
       (λ x. rw (le-ltb s.h (length l) x) (has n s (below_all n l (omega (arith, v.count))) v))
 

@@ -7,7 +7,7 @@ use Prim.Native.Nat.{ℕ, ◌+◌, ◌-◌, ◌≤◌, ◌<◌}
 use native.Mathlib.Omega.{arith}
 use lib.Dec.{ltb, leb}
 use lib.ListN.{length}
-use borrow.Author.Tests.{lt_ltb, le-ltb, le-leb, lt-leb, ne_eqb, eq-eqb}
+use borrow.Author.Tests.{lt-ltb, le-ltb, le-leb, lt-leb, ne_eqb, eq-eqb}
 use Rattle.lists.proofs.Laws.{inside, outside}
 use Rattle.lists.specs.Tests.{all_of, any_of}
 use Rattle.punycode.specs.Calls.{lower}
@@ -30,7 +30,7 @@ module _ (c : ℕ) where
   pub alnum_high : 97 ≤ c → ltb c 123 ≡ alnum c
   unfolding alnum
   alnum_high h = split c 123
-      (λ g. rw (lt_ltb c 123 g, inside 97 122 c h (omega arith)))
+      (λ g. rw (lt-ltb c 123 g, inside 97 122 c h (omega arith)))
       (λ g. rw (le-ltb c 123 g, outside 97 122 c (λ p q. omega arith), outside 48 57 c (λ p q. omega arith)))
 
   pub ldh_hyphen : c ≡ 45 → true ≡ ldh c
@@ -58,7 +58,7 @@ module _ (c : ℕ) where
   pub wide_high : 0xE000 ≤ c → ltb c 0x110000 ≡ wide c
   unfolding wide
   wide_high h = split c 0x110000
-      (λ g. rw (lt_ltb c 0x110000 g, inside 0x80 0x10FFFF c (omega arith) (omega arith), outside 0xD800 0xDFFF c (λ p q. omega arith)))
+      (λ g. rw (lt-ltb c 0x110000 g, inside 0x80 0x10FFFF c (omega arith) (omega arith), outside 0xD800 0xDFFF c (λ p q. omega arith)))
       (λ g. rw (le-ltb c 0x110000 g, outside 0x80 0x10FFFF c (λ p q. omega arith)))
 
   pub allowed_wide : (r : Bool) → r ≡ wide c → r ≡ true → true ≡ allowed c
@@ -109,14 +109,14 @@ no_high : (l : List ℕ) → length l ≤ length (below 0x80 l) → any_of (leb 
 unfolding any_of below
 no_high [] h = refl
 no_high (c ∷ l) h = split c 0x80
-    (λ x. rw (lt-leb 0x80 c x) (no_high l (omega (arith, rw (lt_ltb c 0x80 x) at h))))
+    (λ x. rw (lt-leb 0x80 c x) (no_high l (omega (arith, rw (lt-ltb c 0x80 x) at h))))
     (λ x. absurd (omega (arith, rw (le-ltb c 0x80 x) at h, length_below 0x80 l)))
 
 any_high : (l : List ℕ) → length (below 0x80 l) < length l → any_of (leb 0x80) l ≡ true
 unfolding any_of below
 any_high [] h = absurd (omega arith)
 any_high (c ∷ l) h = split c 0x80
-    (λ x. rw (lt-leb 0x80 c x) (any_high l (omega (arith, rw (lt_ltb c 0x80 x) at h))))
+    (λ x. rw (lt-leb 0x80 c x) (any_high l (omega (arith, rw (lt-ltb c 0x80 x) at h))))
     (λ x. rw (le-leb 0x80 c x))
 
 module _ (l : List ℕ) where

@@ -9,7 +9,7 @@ use Prim.Native.Nat.{ℕ, ◌≤◌, ◌<◌}
 use native.Mathlib.Omega.{arith}
 use lib.Dec.{leb}
 use lib.ListN.{length, drop}
-use borrow.Author.Tests.{lt_ltb, le-ltb, ne_eqb, eq-eqb}
+use borrow.Author.Tests.{lt-ltb, le-ltb, ne_eqb, eq-eqb}
 use Rattle.lists.proofs.Laws.{both, or_left, outside, in_range, all_append, all_weaker}
 use Rattle.lists.specs.Tests.{within, all_of, any_of}
 use Rattle.punycode.specs.Decoding.{decode}
@@ -36,7 +36,7 @@ module _ (f : ℕ → Bool) (n : ℕ) (small : (c : ℕ) → f c ≡ true → c 
   all_below [] h = refl
   all_below (c ∷ l) h =
       let e = both (f c) (all_of f l) h in
-      rw (lt_ltb c n (small c e.0), all_below l e.1)
+      rw (lt-ltb c n (small c e.0), all_below l e.1)
 
 pub bounded : (l : List ℕ) → all_of allowed l ≡ true → below 0x110000 l ≡ l
 bounded = all_below allowed 0x110000 point_bounded
@@ -51,7 +51,7 @@ basic_ldh [] h = refl
 basic_ldh (c ∷ l) h =
     let e = both (allowed c) (all_of allowed l) h in
     split c 128
-    (λ x. rw (lt_ltb c 128 x, point_basic c x e.0, basic_ldh l e.1))
+    (λ x. rw (lt-ltb c 128 x, point_basic c x e.0, basic_ldh l e.1))
     (λ x. rw (le-ltb c 128 x) (basic_ldh l e.1))
 
 alnum_ldh : (c : ℕ) → alnum c ≡ true → ldh c ≡ true

@@ -9,7 +9,7 @@ use native.Mathlib.Omega.{arith}
 use lib.Dec.{eqb, leb, ltb}
 use lib.ListN.{length, take, drop, get_or}
 use lib.Seq.{take_all}
-use borrow.Author.Tests.{eq-eqb, ne_eqb, lt_ltb, le-ltb, leb-true, leb-false}
+use borrow.Author.Tests.{eq-eqb, ne_eqb, lt-ltb, le-ltb, leb-true, leb-false}
 use Rattle.lists.specs.Tests.{pick}
 use Rattle.characters.specs.Characters.{hyphen}
 use Rattle.rules.specs.Permits.{Permits, ja_char, label_char}
@@ -40,7 +40,7 @@ at_most n m = go (leb n m) refl
   where
     go : (b : Bool) → leb n m ≡ b → b ≡ not (ltb m n)
     go true p = rw (le-ltb m n (leb-true n m p))
-    go false p = rw (lt_ltb m n (leb-false n m p))
+    go false p = rw (lt-ltb m n (leb-false n m p))
 
 module _ (n : ℕ) (j : Bool) where
   pub fits_japanese : j ≡ true → leb n 15 ≡ length_fits n j
@@ -49,7 +49,7 @@ module _ (n : ℕ) (j : Bool) where
 
   pub fits_short : j ≡ false → n < 3 → false ≡ length_fits n j
   unfolding length_fits
-  fits_short e h = rw (e, lt_ltb n 3 h)
+  fits_short e h = rw (e, lt-ltb n 3 h)
 
   pub fits_ascii : j ≡ false → 3 ≤ n → leb n 63 ≡ length_fits n j
   unfolding length_fits
@@ -122,8 +122,8 @@ unfolding ending length_fits
 long_end s h = go s.ja
   where
     go : (j : Bool) → not (not j && ltb s.count 3) && not (ltb (pick j 15 63) s.count) && not (s.dot && not s.ordinary) ≡ false
-    go true = rw (lt_ltb 15 s.count (omega arith))
-    go false = rw (le-ltb s.count 3 (omega arith), lt_ltb 63 s.count h)
+    go true = rw (lt-ltb 15 s.count (omega arith))
+    go false = rw (le-ltb s.count 3 (omega arith), lt-ltb 63 s.count h)
 
 module _ (P : Permits) where
   long_step : (x : ℕ) (xs : List ℕ) (s : Seen) → after_hyphen P xs (skip s) ≡ false → after_character P xs (note P s x) ≡ false

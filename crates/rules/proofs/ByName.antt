@@ -9,7 +9,7 @@ use Prim.Native.Nat.{ℕ, ◌-◌, ◌≤◌}
 use native.Mathlib.Omega.{arith}
 use lib.Dec.{eqb, ltb}
 use lib.ListN.{length, get_or}
-use borrow.Author.Tests.{eqb-false, ne_eqb, ltb-false, le-ltb, not_false}
+use borrow.Author.Tests.{eqb-false, ne_eqb, ltb-false, le-ltb, not-false}
 use Rattle.lists.specs.Tests.{all_of, any_of, same}
 use Rattle.lists.specs.Rows.{Row, row, first, without, Clear}
 use Rattle.lists.specs.declared.Answer.{Answer}
@@ -89,10 +89,10 @@ module _ (P : Permits) (ls : List (List ℕ)) where
       let l = get_or ls 0 [] in
       let k = split_but (label_rows P of_name l 0) (last_rows P ls) c.1.1 in
       record {
-        count = not_false _ c.0;
+        count = not-false _ c.0;
         filled = c.1.0;
         left = clear_meets P of_name l 0 k.0;
-        last = not_false _ k.1.0;
+        last = not-false _ k.1.0;
         mid = k.1.1.0;
       }
 
@@ -111,7 +111,7 @@ module _ (P : Permits) (ls : List (List ℕ)) where
   unfolding name_rows label_rows all_of
   past_9 e =
       let c = past_table 17 (row 5 _ _ ∷ row 6 _ _ ∷ row 7 _ _ ∷ row 8 _ _ ∷ row 9 _ _ ∷ []) _ refl e in
-      (not_false _ c.0, c.1.0, c.1.1.0, c.1.1.1.0, c.1.1.1.1.0)
+      (not-false _ c.0, c.1.0, c.1.1.0, c.1.1.1.0, c.1.1.1.1.0)
 
 -- ---- 5 to 10 and 17, of the labels of a host
 
@@ -214,7 +214,7 @@ module _ (P : Permits) (text : List ℕ) where
   -- there is such an edition
   pub clear_known : Clear (text_rows P text) → P.known ≡ true
   unfolding text_rows
-  clear_known c = not_false P.known c.0
+  clear_known c = not-false P.known c.0
 
   pub text_cleared : (first (text_rows P text)).number ≡ 0 → Clear (text_rows P text)
   unfolding text_rows front_rows name_rows label_rows refusing all_of

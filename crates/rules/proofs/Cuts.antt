@@ -10,7 +10,7 @@ use native.Mathlib.Numerals.{add-one}
 use native.Mathlib.Omega.{arith}
 use lib.ListN.{length, take, drop, length-drop}
 use lib.Seq.{drop-drop, take_all}
-use borrow.Author.Tests.{eqb-true, not_false}
+use borrow.Author.Tests.{eqb-true, not-false}
 use Rattle.lists.specs.Tests.{pick, all_of, any_of, index_of}
 use Rattle.lists.proofs.Laws.{neither, lt_or_le, index_bound}
 use Rattle.rules.specs.Labels.{period, into_first, labels, join}
@@ -84,7 +84,7 @@ module _ (P : Permits) where
   labels_held (cut d) e = labels_held d (neither (unfit P 0x2E) _ e).1
   labels_held (held {x = x} {xs = xs} p d) e =
       let n = neither (unfit P x) (any_of (unfit P) xs) e in
-      let w : label_char P x ≡ true = rw p at (not_false (period x || label_char P x) n.0) in
+      let w : label_char P x ≡ true = rw p at (not-false (period x || label_char P x) n.0) in
       rw w (labels_held d n.1)
 
   -- where the text holds no unfit character, each label holds only what a label may hold

@@ -9,7 +9,7 @@ use Prim.Native.Nat.{ℕ, ◌≤◌}
 use native.Mathlib.Omega.{arith}
 use lib.Dec.{eqb, leb}
 use lib.ListN.{length, length-append}
-use borrow.Author.Tests.{eqb-true, ltb-false, leb-true, not-true, not_false}
+use borrow.Author.Tests.{eqb-true, ltb-false, leb-true, not-true, not-false}
 use Rattle.lists.specs.Tests.{pick, within, all_of, any_of}
 use Rattle.lists.proofs.Laws.{both, neither, or_right, any_append, all_none, absent, in_lists, same_is, same_refl}
 use Rattle.characters.specs.Characters.{alnum, hyphen, ascii_set}
@@ -72,7 +72,7 @@ module _ (P : Permits) (L : Laws P) where
   passed_derives (a ∷ []) w C = absurd (⊎_elim (λ e. omega arith) (λ e. omega arith) (two_or_three 1 P.three C.count))
   passed_derives (a ∷ b ∷ []) w C = rw (same_is b jp C.last) (general (left_label a _ w C))
   passed_derives (a ∷ b ∷ c ∷ []) w C =
-      rw (same_is c jp C.last) (prefecture (left_label a _ w C) (listed (not_false (middle P b) C.mid)))
+      rw (same_is c jp C.last) (prefecture (left_label a _ w C) (listed (not-false (middle P b) C.mid)))
   passed_derives (a ∷ b ∷ c ∷ d ∷ ls) w C =
       absurd (⊎_elim (λ e. omega arith) (λ e. omega arith) (two_or_three (length (a ∷ b ∷ c ∷ d ∷ ls)) P.three C.count))
 

@@ -10,7 +10,7 @@ use Prim.Native.Nat.{ℕ}
 use native.Mathlib.Omega.{arith}
 use lib.Dec.{eqb}
 use lib.ListN.{length, get_or}
-use borrow.Author.Tests.{eqb-true, not_false}
+use borrow.Author.Tests.{eqb-true, not-false}
 use Rattle.lists.specs.Tests.{pick, all_of}
 use Rattle.lists.specs.Rows.{Row, row, first, without, Clear}
 use Rattle.lists.specs.declared.Answer.{Answer}
@@ -128,7 +128,7 @@ module _ (P : Permits) (text : List ℕ) where
         let before : List Row = row 25 (not P.known) 0 ∷ front_rows P text in
         let f = past_table 17 before (name_rows P ls) refl given_17 in
         let c = past_9 P ls (sym (ap (λ (a : Answer). a.number) (clear_before before (name_rows P ls) f)) ∙ given_17) in
-        (record { there_is = not_false P.known f.0; front = clear_front P text f.1; count = c.0; filled = c.1 }, c.2, c.3, c.4)
+        (record { there_is = not-false P.known f.0; front = clear_front P text f.1; count = c.0; filled = c.1 }, c.2, c.3, c.4)
 
 -- no text is accepted as both
 pub not_both : (P : Permits) (text : List ℕ) → rules P text ≡ accepted General → rules P text ≡ accepted Prefecture → ⊥

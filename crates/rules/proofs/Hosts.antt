@@ -9,7 +9,7 @@ use Prim.Native.Nat.{ℕ, suc, ◌+◌, ◌≤◌, ◌<◌}
 use native.Mathlib.Omega.{arith}
 use lib.Dec.{eqb, ltb}
 use lib.ListN.{length, length-append}
-use borrow.Author.Tests.{eqb-true, ne_eqb, ltb-true, lt_ltb}
+use borrow.Author.Tests.{eqb-true, ne_eqb, ltb-true, lt-ltb}
 use Rattle.lists.specs.Tests.{pick, all_of, any_of, index_of}
 use Rattle.lists.specs.Rows.{row, says, first, Clear}
 use Rattle.lists.specs.declared.Answer.{Answer}
@@ -169,7 +169,7 @@ module _ (P : Permits) (n : ℕ) (some : 1 ≤ n) where
   label_inside : (l : List ℕ) (i : ℕ) → i < n → (first (label_rows P of_host l i)).place < n
   unfolding label_rows all_of
   label_inside l i h =
-      ltb-true _ n (of_rows (λ (a : Answer). ltb a.place n) (lt_ltb 0 n (omega arith)) (label_rows P of_host l i) (rw (lt_ltb i n h)))
+      ltb-true _ n (of_rows (λ (a : Answer). ltb a.place n) (lt-ltb 0 n (omega arith)) (label_rows P of_host l i) (rw (lt-ltb i n h)))
 
   each_inside : (i : ℕ) (ls : List (List ℕ)) → i + length ls ≤ n → (first (each_rows P i ls)).place < n
   unfolding each_rows first

@@ -8,7 +8,7 @@ use Prim.Native.Nat.{ℕ, suc, ◌-◌, ◌≤◌, ◌<◌}
 use native.Mathlib.Omega.{arith}
 use lib.Dec.{eqb}
 use lib.ListN.{length, get_or}
-use borrow.Author.Tests.{eq-eqb, ne_eqb, lt_ltb, le-ltb}
+use borrow.Author.Tests.{eq-eqb, ne_eqb, lt-ltb, le-ltb}
 use Rattle.lists.specs.Tests.{any_of, index_of, same}
 use Rattle.lists.specs.Rows.{first}
 use Rattle.lists.specs.declared.Answer.{Answer}
@@ -96,7 +96,7 @@ module _ (P : Permits) (text : List ℕ) where
   module _ (some : length text ≡ 0 → ⊥) where
     pub front_3 : 256 < length text → first (front_rows P text) ≡ record { number = 3; place = 256 }
     unfolding front_rows
-    front_3 h = passed_over 2 _ 0 _ (ne_eqb (length text) 0 some) ∙ hit 3 _ 256 _ (lt_ltb 256 (length text) h)
+    front_3 h = passed_over 2 _ 0 _ (ne_eqb (length text) 0 some) ∙ hit 3 _ 256 _ (lt-ltb 256 (length text) h)
 
     pub front_4 : length text ≤ 256 → any_of (unfit P) (normal_form text) ≡ true
         → first (front_rows P text) ≡ record { number = 4; place = get_or (places text) (index_of (unfit P) (normal_form text)) 0 }
@@ -148,7 +148,7 @@ module _ (P : Permits) (text : List ℕ) where
 module _ (P : Permits) (ls : List (List ℕ)) where
   pub host_5 : length ls < 3 → first (host_rows P ls) ≡ record { number = 5; place = 0 }
   unfolding host_rows
-  host_5 h = hit 5 _ 0 _ (lt_ltb (length ls) 3 h)
+  host_5 h = hit 5 _ 0 _ (lt-ltb (length ls) 3 h)
 
   module _ (no-5 : 3 ≤ length ls) where
     pub host_6 : any_of is_empty ls ≡ true → first (host_rows P ls) ≡ record { number = 6; place = index_of is_empty ls }

@@ -8,7 +8,7 @@ use mathlib.Core.Logic.{◌↔◌, ⊎_elim}
 use Prim.Native.Nat.{ℕ, zero, suc, ◌≤◌}
 use native.Mathlib.Omega.{arith}
 use lib.ListN.{length, get_or, replicate, length-replicate}
-use borrow.Author.Tests.{lt_ltb, le-ltb}
+use borrow.Author.Tests.{lt-ltb, le-ltb}
 use Rattle.rules.specs.Editions.{is_edition, edition_of, today}
 use Rattle.rules.specs.Hopeful.{MayBecome, hopeful}
 use Rattle.rules.specs.Kinds.{no_kinds}
@@ -50,7 +50,7 @@ typed_said : (Says : List ℕ → Type 0) → Alike Says → (e : ℕ) (cs : Lis
 unfolding held_text looked_by
 typed_said Says alike e cs x =
     ⊎_elim (λ h. rw (le-ltb 256 (typed (fresh e) cs).count (omega (arith, h.count, h.few)), h.held) at x)
-    (λ h. alike (replicate 257 0) cs (omega (arith, length-replicate {A = ℕ} 257 0)) h.many (rw (lt_ltb 256 (typed (fresh e) cs).count (omega (arith, h.count))) at x))
+    (λ h. alike (replicate 257 0) cs (omega (arith, length-replicate {A = ℕ} 257 0)) h.many (rw (lt-ltb 256 (typed (fresh e) cs).count (omega (arith, h.count))) at x))
     (typed_holds cs (fresh e) [] (fresh_holds e))
 
 -- two answers on a name that differ in length alone have every other number in common

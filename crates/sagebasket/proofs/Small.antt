@@ -9,7 +9,7 @@ use Prim.Native.Nat.{ℕ, zero, suc, ◌+◌, ◌≤◌}
 use native.Mathlib.Omega.{arith}
 use lib.Dec.{eqb, leb, ltb}
 use lib.ListN.{length, drop, get_or, length-append}
-use borrow.Author.Tests.{eqb-true, le-leb, leb-true, lt_ltb, le-ltb}
+use borrow.Author.Tests.{eqb-true, le-leb, leb-true, lt-ltb, le-ltb}
 use Rattle.lists.specs.Tests.{pick, all_of, any_of, index_of}
 use Rattle.lists.specs.Front.{written}
 use Rattle.lists.specs.Rows.{row, first, given}
@@ -172,7 +172,7 @@ module _ (P : Permits) {text before after : List ℕ} where
 pub shown_few : (t : List ℕ) → length (shown t) ≤ 256
 unfolding shown
 shown_few t =
-    ⊎_elim (λ h. rw (lt_ltb 256 (length t) h) (omega arith))
+    ⊎_elim (λ h. rw (lt-ltb 256 (length t) h) (omega arith))
     (λ h. rw (le-ltb 256 (length t) h) (omega (arith, no_longer t)))
     (lt_or_le 256 (length t))
 

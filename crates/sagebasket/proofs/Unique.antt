@@ -6,7 +6,7 @@ use mathlib.Core.List.{List, [], ◌∷◌, ◌++◌}
 use Prim.Native.Nat.{ℕ}
 use native.Mathlib.Omega.{arith}
 use lib.ListN.{length, get_or, take-append-drop, drop_of_length-le}
-use lib.Seq.{drop_cons}
+use lib.Seq.{drop-cons}
 use Rattle.lists.proofs.Laws.{clash}
 use Rattle.lists.proofs.Unique.{decided}
 use Rattle.rules.specs.Permits.{Permits}
@@ -86,7 +86,7 @@ whole : (u : List ℕ) → length u ≡ 258 → u ≡ (held u).text ++ (held u).
 unfolding held
 whole u k =
     sym (take-append-drop 256 u)
-    ∙ rw (drop_cons u 256 0 (omega (arith, k)), drop_cons u 257 0 (omega (arith, k)), drop_of_length-le u {i = 258} (omega (arith, k)))
+    ∙ rw (drop-cons u 256 0 (omega (arith, k)), drop-cons u 257 0 (omega (arith, k)), drop_of_length-le u {i = 258} (omega (arith, k)))
 
 pub held_once : {l : Live} (s t : List ℕ) → length s ≡ 258 → length t ≡ 258 → held s ≡ l → held t ≡ l → s ≡ t
 held_once s t k m p q = whole s k ∙ ap (λ (h : Live). h.text ++ h.count ∷ h.edition ∷ []) (decided p q) ∙ sym (whole t m)

@@ -10,7 +10,7 @@ use Prim.Native.Nat.{ℕ, suc, ◌+◌, ◌-◌, ◌≤◌, ◌<◌}
 use native.Mathlib.Omega.{arith}
 use lib.Dec.{eqb, leb, ltb}
 use lib.ListN.{length, drop, get_or}
-use borrow.Author.Tests.{le-leb, lt-leb, lt_ltb, le-ltb, ltb-true, not-true}
+use borrow.Author.Tests.{le-leb, lt-leb, lt-ltb, le-ltb, ltb-true, not-true}
 use Rattle.lists.specs.Tests.{pick, within, elem}
 use Rattle.lists.proofs.Laws.{both, by_test, outside, lt_or_le}
 use Rattle.characters.specs.Characters.{ascii_set, kinds, signs_in, stretch, kind_among, kind_by, any_kind, kanji_with, kind_with}
@@ -26,7 +26,7 @@ use Rattle.searches.specs.Steps.{stops_at, stop_from, no_kanji_at}
 use Rattle.searches.proofs.Walking.{lent_joins, zero_no_base, walk_stops, forward, stops_is}
 
 lt_not_le : (a b : ℕ) → ltb a b ≡ not (leb b a)
-lt_not_le a b = ⊎_elim (λ h. rw (lt_ltb a b h, lt-leb b a h)) (λ h. rw (le-ltb a b h, le-leb b a h)) (lt_or_le a b)
+lt_not_le a b = ⊎_elim (λ h. rw (lt-ltb a b h, lt-leb b a h)) (λ h. rw (le-ltb a b h, le-leb b a h)) (lt_or_le a b)
 
 -- ---- one code point
 
@@ -79,11 +79,11 @@ module _ (text : List ℕ) (at : ℕ) where
   module _ (h : at < length text) {c : ℕ} (e : c ≡ replace (get_or text at 0)) where
     pub below : c < 0x4E00 → true ≡ no_kanji_at text at
     unfolding no_kanji_at
-    below l = rw (lt_ltb at (length text) h, ← e, outside 0x4E00 0x9FA0 c (λ p q. omega arith))
+    below l = rw (lt-ltb at (length text) h, ← e, outside 0x4E00 0x9FA0 c (λ p q. omega arith))
 
     pub above : 0x4E00 ≤ c → ltb 0x9FA0 c ≡ no_kanji_at text at
     unfolding no_kanji_at within
-    above l = rw (lt_ltb at (length text) h, ← e, le-leb 0x4E00 c l) (lt_not_le 0x9FA0 c)
+    above l = rw (lt-ltb at (length text) h, ← e, le-leb 0x4E00 c l) (lt_not_le 0x9FA0 c)
 
 -- ---- the walk
 

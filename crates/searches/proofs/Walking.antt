@@ -10,7 +10,7 @@ use native.Mathlib.Numerals.{add-one}
 use native.Mathlib.Omega.{arith}
 use lib.Dec.{eqb}
 use lib.ListN.{length, drop, get_or, drop_of_length-le}
-use lib.Seq.{drop_cons}
+use lib.Seq.{drop-cons}
 use borrow.Author.Tests.{eqb-true, eqb-false, ne_eqb, eq-eqb, not-true}
 use Rattle.lists.specs.Tests.{pick, within, all_of, any_of, index_of, elem}
 use Rattle.lists.proofs.Laws.{by_test, clash, differs}
@@ -57,7 +57,7 @@ module _ (P : Permits) where
       peel : {one : ℕ} → one ≡ composed last x → stop_from P last i (drop i t)
           ≡ pick (eqb one 0) (pick b i (stop_from P x (i + 1) (drop (i + 1) t))) (stop_from P one (i + 1) (drop (i + 1) t))
       unfolding stop_from
-      peel eo = rw (eo, e, ex, add-one, drop_cons t i 0 h)
+      peel eo = rw (eo, e, ex, add-one, drop-cons t i 0 h)
 
       -- what is fit is no mark
       pub walk_on : Joins P → b ≡ false → stop_from P last i (drop i t) ≡ stop_from P x (i + 1) (drop (i + 1) t)

@@ -10,8 +10,8 @@ use native.Mathlib.Numerals.{add-one}
 use native.Mathlib.Omega.{arith}
 use lib.Dec.{eqb}
 use lib.ListN.{length, take, drop, set, get_or, length-append, length-set, drop_of_length-le}
-use lib.Seq.{take-nil, append_snoc, drop_cons}
-use borrow.Author.Tests.{lt_ltb, le-ltb, eq-eqb, ne_eqb}
+use lib.Seq.{take-nil, append_snoc, drop-cons}
+use borrow.Author.Tests.{lt-ltb, le-ltb, eq-eqb, ne_eqb}
 use Rattle.lists.specs.Tests.{within}
 use Rattle.lists.specs.Front.{written}
 use Rattle.lists.proofs.Laws.{inside, lt_or_le}
@@ -59,10 +59,10 @@ grows {acc = acc} {l = l} (b3 p) h g = b2 {a = acc * 64 + l} (omega arith)
 
 starts : (b : ℕ) → b < 256 → Bound (need_of b) (bits_of b)
 starts b h =
-    cut 0xC0 (λ g. rw (lt_ltb b 0xC0 g) b0)
-    (λ i. cut 0xE0 (λ g. rw (le-ltb b 0xC0 i, lt_ltb b 0xE0 g) (b1 {a = b - 0xC0} (omega arith)))
-    (λ j. cut 0xF0 (λ g. rw (le-ltb b 0xC0 i, le-ltb b 0xE0 j, lt_ltb b 0xF0 g) (b2 {a = b - 0xE0} (omega arith)))
-    (λ k. cut 0xF8 (λ g. rw (le-ltb b 0xC0 i, le-ltb b 0xE0 j, le-ltb b 0xF0 k, lt_ltb b 0xF8 g) (b3 {a = b - 0xF0} (omega arith)))
+    cut 0xC0 (λ g. rw (lt-ltb b 0xC0 g) b0)
+    (λ i. cut 0xE0 (λ g. rw (le-ltb b 0xC0 i, lt-ltb b 0xE0 g) (b1 {a = b - 0xC0} (omega arith)))
+    (λ j. cut 0xF0 (λ g. rw (le-ltb b 0xC0 i, le-ltb b 0xE0 j, lt-ltb b 0xF0 g) (b2 {a = b - 0xE0} (omega arith)))
+    (λ k. cut 0xF8 (λ g. rw (le-ltb b 0xC0 i, le-ltb b 0xE0 j, le-ltb b 0xF0 k, lt-ltb b 0xF8 g) (b3 {a = b - 0xF0} (omega arith)))
     (λ m. rw (le-ltb b 0xC0 i, le-ltb b 0xE0 j, le-ltb b 0xF0 k, le-ltb b 0xF8 m) b0))))
   where
     cut : (n : ℕ) → (b < n → Bound (need_of b) (bits_of b)) → (n ≤ b → Bound (need_of b) (bits_of b)) → Bound (need_of b) (bits_of b)
@@ -78,7 +78,7 @@ idle least acc (b ∷ s) = refl
 module _ (need least acc b : ℕ) (s : List ℕ) where
   pub ascii : need ≡ 0 → b < 0x80 → decode_from need least acc (b ∷ s) ≡ put b (decode_from need least acc s)
   unfolding decode_from
-  ascii e h = rw (e, lt_ltb b 0x80 h) (ap (put b) (sym (idle least acc s)))
+  ascii e h = rw (e, lt-ltb b 0x80 h) (ap (put b) (sym (idle least acc s)))
 
   begun : need ≡ 0 → 0x80 ≤ b → (need_of b ≡ 0 → ⊥) → decode_from need least acc (b ∷ s) ≡ decode_from (need_of b) (least_of b) (bits_of b) s
   unfolding decode_from
@@ -174,7 +174,7 @@ module _ {bytes out₀ out : List ℕ} {need least acc n i : ℕ} (k : Kept byte
 
   module _ (h : i < length bytes) {b : ℕ} (eb : b ≡ get_or bytes i 0) where
     there : drop i bytes ≡ b ∷ drop (i + 1) bytes
-    there = rw (add-one, eb) (drop_cons bytes i 0 h)
+    there = rw (add-one, eb) (drop-cons bytes i 0 h)
 
     pub faults : decode_from need least acc (b ∷ drop (i + 1) bytes) ≡ fault → DecodesUpToFault bytes out₀ out (decoded_as false n)
     faults e = done (ap (decode_from need least acc) there ∙ e)

@@ -9,7 +9,7 @@ use Prim.Native.Nat.{ℕ, zero, suc, ◌+◌, ◌-◌, ◌*◌, ◌/◌, ◌%◌
 use native.Mathlib.Omega.{arith}
 use lib.Dec.{leb, ltb}
 use lib.ListN.{length, length-append}
-use borrow.Author.Tests.{lt_ltb, le-ltb, le-leb, ltb-true, leb-true}
+use borrow.Author.Tests.{lt-ltb, le-ltb, le-leb, ltb-true, leb-true}
 use Rattle.lists.specs.Tests.{pick, within, all_of}
 use Rattle.lists.proofs.Laws.{both, by_test, inside, in_range, lt_or_le}
 use Rattle.utf8.specs.Utf8.{scalar, encode, encodes, Text, put, fault, proper, decode_from, decoded}
@@ -38,34 +38,34 @@ module _ (least acc l : ℕ) (h : l < 64) (s : List ℕ) where
 module _ (b : ℕ) (s : List ℕ) where
   one : b < 0x80 → decoded (b ∷ s) ≡ put b (decoded s)
   unfolding decode_from
-  one h = rw (lt_ltb b 0x80 h)
+  one h = rw (lt-ltb b 0x80 h)
 
   two : 0xC0 ≤ b → b < 0xE0 → decoded (b ∷ s) ≡ decode_from 1 0x80 (b - 0xC0) s
   unfolding decode_from
-  two h g = rw (le-ltb b 0x80 (omega arith), le-ltb b 0xC0 h, lt_ltb b 0xE0 g)
+  two h g = rw (le-ltb b 0x80 (omega arith), le-ltb b 0xC0 h, lt-ltb b 0xE0 g)
 
   three : 0xE0 ≤ b → b < 0xF0 → decoded (b ∷ s) ≡ decode_from 2 0x800 (b - 0xE0) s
   unfolding decode_from
-  three h g = rw (le-ltb b 0x80 (omega arith), le-ltb b 0xC0 (omega arith), le-ltb b 0xE0 h, lt_ltb b 0xF0 g)
+  three h g = rw (le-ltb b 0x80 (omega arith), le-ltb b 0xC0 (omega arith), le-ltb b 0xE0 h, lt-ltb b 0xF0 g)
 
   four : 0xF0 ≤ b → b < 0xF8 → decoded (b ∷ s) ≡ decode_from 3 0x10000 (b - 0xF0) s
   unfolding decode_from
-  four h g = rw (le-ltb b 0x80 (omega arith), le-ltb b 0xC0 (omega arith), le-ltb b 0xE0 (omega arith), le-ltb b 0xF0 h, lt_ltb b 0xF8 g)
+  four h g = rw (le-ltb b 0x80 (omega arith), le-ltb b 0xC0 (omega arith), le-ltb b 0xE0 (omega arith), le-ltb b 0xF0 h, lt-ltb b 0xF8 g)
 
 -- ---- encoding by digits
 
 module _ (c : ℕ) where
   pub enc1 : c < 0x80 → encode c ≡ c ∷ []
   unfolding encode
-  enc1 h = rw (lt_ltb c 0x80 h)
+  enc1 h = rw (lt-ltb c 0x80 h)
 
   enc2 : 0x80 ≤ c → c < 0x800 → encode c ≡ (0xC0 + c / 64) ∷ (0x80 + c % 64) ∷ []
   unfolding encode
-  enc2 h g = rw (le-ltb c 0x80 h, lt_ltb c 0x800 g)
+  enc2 h g = rw (le-ltb c 0x80 h, lt-ltb c 0x800 g)
 
   enc3 : 0x800 ≤ c → c < 0x10000 → encode c ≡ (0xE0 + c / 64 / 64) ∷ (0x80 + c / 64 % 64) ∷ (0x80 + c % 64) ∷ []
   unfolding encode
-  enc3 h g = rw (le-ltb c 0x80 (omega arith), le-ltb c 0x800 h, lt_ltb c 0x10000 g)
+  enc3 h g = rw (le-ltb c 0x80 (omega arith), le-ltb c 0x800 h, lt-ltb c 0x10000 g)
 
   enc4 : 0x10000 ≤ c → encode c ≡ (0xF0 + c / 64 / 64 / 64) ∷ (0x80 + c / 64 / 64 % 64) ∷ (0x80 + c / 64 % 64) ∷ (0x80 + c % 64) ∷ []
   unfolding encode
@@ -260,11 +260,11 @@ module _ (a : ℕ) (s : List ℕ) where
 
   pub small_scalar : a < 0x80 → scalar a ≡ true
   unfolding scalar
-  small_scalar h = rw (lt_ltb a 0xD800 (omega arith))
+  small_scalar h = rw (lt-ltb a 0xD800 (omega arith))
 
   none_low : 0x80 ≤ a → a < 0xC0 → decoded (a ∷ s) ≡ fault
   unfolding decode_from
-  none_low h g = rw (le-ltb a 0x80 h, lt_ltb a 0xC0 g)
+  none_low h g = rw (le-ltb a 0x80 h, lt-ltb a 0xC0 g)
 
   none_high : 0xF8 ≤ a → decoded (a ∷ s) ≡ fault
   unfolding decode_from

@@ -3,7 +3,7 @@
 use mathlib.Core.Path.{refl, sym, ap, ◌∙◌}
 use Prim.Native.Nat.{min}
 use lib.ListN.{take, replicate}
-use borrow.Author.Tests.{not-true, not_false}
+use borrow.Author.Tests.{not-true, not-false}
 use Rattle.rules.specs.Editions.{today_with}
 use Rattle.utf8.specs.declared.Decoded.{Decoded}
 use Rattle.utf8.specs.Decodes.{codes_of}
@@ -43,7 +43,7 @@ same-length-2 c = search rules
 returns-2 : tie.Need-returns-2
 returns-2 c =
     let a = c.before.before.before.before.before.before.before.before.before.before.before.before.before.before.before.args in
-    rw (bad_name (today_with a.kanji.now) a.id.now a.name.now (sym c.before.before.before.before.before.before.before.before.before.before.is-id.ensures ∙ not_false _ c.before.before.before.before.before.before.before.before.before.if1.false) (sym (ap (λ (x : Decoded). x.ok) c.before.before.before.before.before.before.before.decode.ensures.result) ∙ not-true _ c.before.before.before.before.if2.true)) c.before.before.put-bad2.ensures
+    rw (bad_name (today_with a.kanji.now) a.id.now a.name.now (sym c.before.before.before.before.before.before.before.before.before.before.is-id.ensures ∙ not-false _ c.before.before.before.before.before.before.before.before.before.if1.false) (sym (ap (λ (x : Decoded). x.ok) c.before.before.before.before.before.before.before.decode.ensures.result) ∙ not-true _ c.before.before.before.before.if2.true)) c.before.before.put-bad2.ensures
 
 lent-requires : tie.Need-lent-requires
 lent-requires c κs = search rules
@@ -58,7 +58,7 @@ part-put-text-end : tie.Need-slice-bounds-put-text-end
 part-put-text-end c = search rules
 
 put-text-requires : tie.Need-put-text-requires
-put-text-requires c κs = search (rules, id_length c.before.before.before.before.before.before.before.before.before.before.before.before.before.before.before.args.id.now (sym c.before.before.before.before.before.before.before.before.before.before.is-id.ensures ∙ not_false _ c.before.before.before.before.before.before.before.before.before.if1.false))
+put-text-requires c κs = search (rules, id_length c.before.before.before.before.before.before.before.before.before.before.before.before.before.before.before.args.id.now (sym c.before.before.before.before.before.before.before.before.before.before.is-id.ensures ∙ not-false _ c.before.before.before.before.before.before.before.before.before.if1.false))
 
 same-length-3 : tie.Need-same-length-3
 same-length-3 c = search rules
@@ -69,8 +69,8 @@ returns-3 c =
     let d = c.before.before.before.before.before.before.before.before.before.before.decode in
     let n = c.before.before.before.before.before.before.lent in
     let g = lent_name (codes_of a.name.now) (replicate 257 0) d.new.1.0 n.result refl d.ensures.buffer (n.ensures ∙ ap (λ (x : Decoded). min x.count 257) d.ensures.result) in
-    let ok = sym (ap (λ (x : Decoded). x.ok) d.ensures.result) ∙ not_false _ c.before.before.before.before.before.before.before.if2.false in
-    rw (good_fields (today_with a.kanji.now) a.id.now a.name.now _ (sym c.before.before.before.before.before.before.before.before.before.before.before.before.before.is-id.ensures ∙ not_false _ c.before.before.before.before.before.before.before.before.before.before.before.before.if1.false) ok (g ∙ ap (take 257) (codes_well a.name.now ok))) c.before.before.put-text.ensures
+    let ok = sym (ap (λ (x : Decoded). x.ok) d.ensures.result) ∙ not-false _ c.before.before.before.before.before.before.before.if2.false in
+    rw (good_fields (today_with a.kanji.now) a.id.now a.name.now _ (sym c.before.before.before.before.before.before.before.before.before.before.before.before.before.is-id.ensures ∙ not-false _ c.before.before.before.before.before.before.before.before.before.before.before.before.if1.false) ok (g ∙ ap (take 257) (codes_well a.name.now ok))) c.before.before.put-text.ensures
 
 pub put-fields-spec : {M : Type 1} → statement M
 put-fields-spec =

@@ -1,7 +1,7 @@
 -- `of_either_kana` meets its contract: the table is asked for b moved to its row.
 -- Assumes nothing.
 use mathlib.Core.Path.{◌∙◌}
-use borrow.Author.Tests.{lt_ltb, le-ltb}
+use borrow.Author.Tests.{lt-ltb, le-ltb}
 use borrow.Author.Rules.{rules}
 use Rattle.characters.proofs.of_either_kana.Statement.{statement}
 use Rattle.characters.proofs.of_either_kana.Tie as tie
@@ -13,7 +13,7 @@ holds-requires : tie.Need-holds-requires
 holds-requires c κs = search rules
 
 returns : tie.Need-returns
-returns c = c.holds.ensures ∙ simp (lt_ltb _ _ c.before.if1.true)
+returns c = c.holds.ensures ∙ simp (lt-ltb _ _ c.before.if1.true)
 
 holds-requires-2 : tie.Need-holds-requires-2
 holds-requires-2 c κs = search rules

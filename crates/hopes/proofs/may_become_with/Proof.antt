@@ -4,7 +4,7 @@ use mathlib.Core.Path.{◌∙◌}
 use Prim.Native.Nat.{ℕ}
 use native.Mathlib.Omega.{arith}
 use lib.ListN.{length-replicate}
-use borrow.Author.Tests.{not-true, not_false}
+use borrow.Author.Tests.{not-true, not-false}
 use Rattle.rules.proofs.Editions.{lent_short}
 use Rattle.fronts.proofs.Fronting.{told_refused, told_unfit, told_fit, told_fits}
 use Rattle.labelled.proofs.OfName.{lent_known}
@@ -20,7 +20,7 @@ returns : tie.Need-returns
 returns c = not_known _ _ (lent_known _ _ c.before.is-edition.ensures ∙ not-true _ c.if1.true)
 
 returns-2 : tie.Need-returns-2
-returns-2 c = nothing_yet _ _ _ (lent_known _ _ c.before.before.is-edition.ensures ∙ not_false _ c.before.if1.false) c.if2.true
+returns-2 c = nothing_yet _ _ _ (lent_known _ _ c.before.before.is-edition.ensures ∙ not-false _ c.before.if1.false) c.if2.true
 
 slice-aggregate-front-with : tie.Need-slice-aggregate-front-with
 slice-aggregate-front-with c = search rules
@@ -50,7 +50,7 @@ form-grows-requires : tie.Need-form-grows-requires
 form-grows-requires c κs = search rules
 
 returns-5 : tie.Need-returns-5
-returns-5 c = front_hope _ (lent_short _ _) (lent_known _ _ c.before.before.before.before.before.before.before.before.before.before.before.is-edition.ensures ∙ not_false _ c.before.before.before.before.before.before.before.before.before.before.if1.false) (told_fit _ c.before.before.before.before.before.before.before.front-with.ensures (omega arith) c.before.before.before.before.if3.false c.before.before.before.if4.false) c.form-grows.ensures
+returns-5 c = front_hope _ (lent_short _ _) (lent_known _ _ c.before.before.before.before.before.before.before.before.before.before.before.is-edition.ensures ∙ not-false _ c.before.before.before.before.before.before.before.before.before.before.if1.false) (told_fit _ c.before.before.before.before.before.before.before.front-with.ensures (omega arith) c.before.before.before.before.if3.false c.before.before.before.if4.false) c.form-grows.ensures
 
 pub may-become-with-spec : {M : Type 1} → statement M
 may-become-with-spec =

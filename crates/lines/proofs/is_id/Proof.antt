@@ -4,7 +4,7 @@ use mathlib.Core.Path.{◌≡◌, refl}
 use Prim.Native.Nat.{◌≤◌, ◌-◌}
 use native.Mathlib.Omega.{arith}
 use lib.ListN.{length, drop}
-use borrow.Author.Tests.{not-true, not_false}
+use borrow.Author.Tests.{not-true, not-false}
 use borrow.Author.Rules.{rules}
 use Rattle.lists.specs.Tests.{all_of}
 use Rattle.lists.proofs.Scan.{all_here, all_on, all_end}
@@ -49,7 +49,7 @@ loop-less c = search rules
 loop-again : tie.Need-loop-preserved invariant-loop decreases-loop
 loop-again c =
     let l = c.before.before.before.before.loop in
-    (l.invariant.0, l.invariant.1, all_on id_byte _ l.i c.before.before.before.loop-test.true l.invariant.2 c.before.is-id-byte.ensures (not_false _ c.if3.false))
+    (l.invariant.0, l.invariant.1, all_on id_byte _ l.i c.before.before.before.loop-test.true l.invariant.2 c.before.is-id-byte.ensures (not-false _ c.if3.false))
 
 returns-4 : tie.Need-returns-4 invariant-loop decreases-loop
 returns-4 c =

@@ -5,7 +5,7 @@ use native.Mathlib.Omega.{arith}
 use lib.ListN.{length, take}
 use lib.Seq.{length-take-le}
 use borrow.Author.Rules.{rules}
-use borrow.Author.Tests.{not-true, not_false}
+use borrow.Author.Tests.{not-true, not-false}
 use Rattle.punycode.specs.Decoding.{found}
 use Rattle.punycode.proofs.Answers.{from_start, decodes_small, decodes_long, decodes_left, decodes_taken}
 use Rattle.punycode.proofs.decode.Statement.{statement}
@@ -80,7 +80,7 @@ returns-4 c =
     let text = take f.result.len f.new.1.0 in
     let size : length text ≡ f.result.len = length-take-le f.result.len f.new.1.0 (omega (arith, f.auto.1.0)) in
     decodes_taken octets _ _ c.before.before.before.before.before.before.before.before.before.before.before.before.before.before.before.before.if1.false _ text (ap found (sym (from_start (length octets) low ∙ w.ensures)) ∙ f.ensures.1) _
-    (not_false _ c.before.before.before.before.before.before.if3.false) (omega arith) (omega arith) (rw size refl) (rw from_start at c.before.before.copy.ensures)
+    (not-false _ c.before.before.before.before.before.before.if3.false) (omega arith) (omega arith) (rw size refl) (rw from_start at c.before.before.copy.ensures)
 
 pub decode-spec : {M : Type 1} → statement M
 decode-spec =

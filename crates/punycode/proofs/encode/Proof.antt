@@ -6,7 +6,7 @@ use native.Mathlib.Omega.{arith}
 use lib.ListN.{length, take}
 use lib.Seq.{length-take-le}
 use borrow.Author.Rules.{rules}
-use borrow.Author.Tests.{not-true, not_false}
+use borrow.Author.Tests.{not-true, not-false}
 use Rattle.punycode.proofs.Answers.{from_start, encodes_short, encodes_unfit, encodes_long, encodes_done}
 use Rattle.punycode.proofs.Rungs.{encodable_size}
 use Rattle.punycode.proofs.encode.Statement.{statement}
@@ -42,7 +42,7 @@ refused-label-requires-4 c κs = search rules
 returns-4 : tie.Need-returns-4
 returns-4 c =
     let t = c.before.before.before.before.ace in
-    let ok : t.result.ok ≡ true = not_false _ c.before.before.if3.false in
+    let ok : t.result.ok ≡ true = not-false _ c.before.before.if3.false in
     let size = length-take-le t.result.at t.new.1.0 (omega (arith, t.auto.1.0)) in
     encodes_long c.before.before.before.before.before.before.before.before.before.before.args.label.now _ _ c.before.before.before.before.before.before.before.if1.false (sym t.ensures.0 ∙ ok) (take t.result.at t.new.1.0) (t.ensures.2 ok) (omega arith) c.refused-label4.ensures
 
@@ -64,7 +64,7 @@ same_length c = search rules
 returns-5 : tie.Need-returns-5
 returns-5 c =
     let t = c.before.before.before.before.before.before.before.before.before.ace in
-    let ok : t.result.ok ≡ true = not_false _ c.before.before.before.before.before.before.before.if3.false in
+    let ok : t.result.ok ≡ true = not-false _ c.before.before.before.before.before.before.before.if3.false in
     let text = take t.result.at t.new.1.0 in
     let size : length text ≡ t.result.at = length-take-le t.result.at t.new.1.0 (omega (arith, t.auto.1.0)) in
     encodes_done c.before.before.before.before.before.before.before.before.before.before.before.before.before.before.before.args.label.now _ _ c.before.before.before.before.before.before.before.before.before.before.before.before.if1.false (sym t.ensures.0 ∙ ok)

@@ -5,7 +5,7 @@ use mathlib.Core.Path.{◌≡◌, refl, sym, ◌∙◌}
 use mathlib.Core.Bool.{false}
 use Prim.Native.Nat.{◌+◌}
 use native.Mathlib.Omega.{arith}
-use borrow.Author.Tests.{not-true, not_false}
+use borrow.Author.Tests.{not-true, not-false}
 use Rattle.lists.proofs.Laws.{in_range}
 use Rattle.characters.specs.KanjiBits.{kanji_bits}
 use Rattle.rules.specs.Permits.{Permits}
@@ -42,14 +42,14 @@ no-kanji-at-requires c κs = search rules
 add-t13 : tie.Need-overflow-add-t13
 add-t13 c =
     let h = inside_at _ _ (sym c.before.no-kanji-at.ensures ∙ c.if2.true) in
-    let r = sym c.before.before.before.before.before.is_read.ensures ∙ not_false _ c.before.before.before.before.if1.false in
+    let r = sym c.before.before.before.before.before.is_read.ensures ∙ not-false _ c.before.before.before.before.if1.false in
     omega (arith, h, (in_range 1 256 _ r).1)
 
 returns-2 : tie.Need-returns-2
 returns-2 c =
     let text = c.before.before.before.before.before.before.before.args.text.now in
     let h = sym c.before.no-kanji-at.ensures ∙ c.if2.true in
-    let r = sym c.before.before.before.before.before.is_read.ensures ∙ not_false _ c.before.before.before.before.if1.false in
+    let r = sym c.before.before.before.before.before.is_read.ensures ∙ not-false _ c.before.before.before.before.if1.false in
     lending (λ (P : Permits). said false (c.before.before.first-stop.result + 1) ≡ searched P text) 4 {table = kanji_bits} refl
     (stopped _ text (lent_there kanji_bits) r (anyway kanji_bits text c.before.before.first-stop.ensures h) (inside_at _ _ h))
 
@@ -67,7 +67,7 @@ slice-aggregate-answered c = search rules
 
 answered-requires : tie.Need-answered-requires
 answered-requires c κs = record {
-  read = sym c.before.before.before.before.before.before.before.before.before.is_read.ensures ∙ not_false _ c.before.before.before.before.before.before.before.before.if1.false;
+  read = sym c.before.before.before.before.before.before.before.before.before.is_read.ensures ∙ not-false _ c.before.before.before.before.before.before.before.before.if1.false;
   place = c.before.first-stop2.ensures ∙ again _ _ c.before.before.before.before.before.before.first-stop.ensures;
 }
 

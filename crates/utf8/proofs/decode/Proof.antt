@@ -1,7 +1,7 @@
 -- `decode` meets its contract: where there is a fault nothing was done, and where there is none the pass reads all.
 -- Assumes nothing.
 use mathlib.Core.Path.{sym, ◌∙◌}
-use borrow.Author.Tests.{not-true, not_false}
+use borrow.Author.Tests.{not-true, not-false}
 use Rattle.utf8.proofs.Decoding.{refused, well}
 use borrow.Author.Rules.{rules}
 use Rattle.utf8.proofs.decode.Statement.{statement}
@@ -27,7 +27,7 @@ same_length c = search rules
 returns-2 : tie.Need-returns-2
 returns-2 c =
     let w = c.before.before.before.before.before in
-    well w.before.before.before.args.bytes.now _ (sym w.is-well-formed.ensures ∙ not_false _ c.before.before.before.before.if1.false) c.before.before.decode-up-to-fault.ensures
+    well w.before.before.before.args.bytes.now _ (sym w.is-well-formed.ensures ∙ not-false _ c.before.before.before.before.if1.false) c.before.before.decode-up-to-fault.ensures
 
 pub decode-spec : {M : Type 1} → statement M
 decode-spec =

@@ -1,7 +1,7 @@
 -- `decode_up_to_fault` meets its contract: at each turn what was written and what is left to decode make the whole, and each arm is one case of
 -- `decode_from`.
 -- Assumes nothing.
-use borrow.Author.Tests.{not-true, not_false}
+use borrow.Author.Tests.{not-true, not-false}
 use mathlib.Core.Path.{sym, ◌∙◌}
 use Prim.Native.Nat.{◌-◌}
 use native.Mathlib.Omega.{arith}
@@ -91,11 +91,11 @@ mul-acc : tie.Need-overflow-mul-acc invariant-loop decreases-loop
 mul-acc c = omega (arith, fits c.before.before.before.before.before.before.loop.invariant.small c.before.before.if1.false)
 
 sub-acc : tie.Need-overflow-sub-acc invariant-loop decreases-loop
-sub-acc c = (in_range 0x80 0xBF c.before.before.before.as_number.result (sym c.before.is-tail.ensures ∙ not_false _ c.if4.false)).0
+sub-acc c = (in_range 0x80 0xBF c.before.before.before.as_number.result (sym c.before.is-tail.ensures ∙ not-false _ c.if4.false)).0
 
 add-acc : tie.Need-overflow-add-acc invariant-loop decreases-loop
 add-acc c =
-    let r = (in_range 0x80 0xBF c.before.before.before.as_number.result (sym c.before.is-tail.ensures ∙ not_false _ c.if4.false)) in
+    let r = (in_range 0x80 0xBF c.before.before.before.as_number.result (sym c.before.is-tail.ensures ∙ not-false _ c.if4.false)) in
     omega (arith, r.1, fits c.before.before.before.before.before.before.loop.invariant.small c.before.before.if1.false)
 
 sub-need : tie.Need-overflow-sub-need invariant-loop decreases-loop
@@ -115,7 +115,7 @@ returns-3 c =
     let l = c.before.before.before.before.before.before.before.before.before.before.loop in
     let t = c.before.before.before.before.before.before.before.before.before.loop-test.true in
     let w = c.before.before.before.before.before.before.before.as_number in
-    let r = in_range 0x80 0xBF w.result (sym c.before.before.before.before.before.is-tail.ensures ∙ not_false _ c.before.before.before.before.if4.false) in
+    let r = in_range 0x80 0xBF w.result (sym c.before.before.before.before.before.is-tail.ensures ∙ not-false _ c.before.before.before.before.if4.false) in
     rw c.told3.ensures (faults l.invariant t w.ensures.0 (unfit _ _ _ r.0 r.1 l.invariant.small c.before.before.before.before.before.before.if1.false c.before.before.before.if5.true (sym c.before.before.is-proper.ensures ∙ not-true _ c.before.if6.true)))
 
 put-code-requires-2 : tie.Need-put-code-requires-2 invariant-loop decreases-loop
@@ -130,8 +130,8 @@ loop-again-3 c =
     let t = c.before.before.before.before.before.before.before.before.before.before.before.before.loop-test.true in
     let w = c.before.before.before.before.before.before.before.before.before.before.as_number in
     let z = c.before.before.before.before.before.before.before.before.before.if1.false in
-    let r = in_range 0x80 0xBF w.result (sym c.before.before.before.before.before.before.before.before.is-tail.ensures ∙ not_false _ c.before.before.before.before.before.before.before.if4.false) in
-    puts_one l.invariant t w.ensures.0 (ended _ _ _ r.0 r.1 l.invariant.small z c.before.before.before.before.before.before.if5.true (sym c.before.before.before.before.before.is-proper.ensures ∙ not_false _ c.before.before.before.before.if6.false)) (grows l.invariant.small z (omega (arith, r.1))) c.before.before.put-code2.ensures
+    let r = in_range 0x80 0xBF w.result (sym c.before.before.before.before.before.before.before.before.is-tail.ensures ∙ not-false _ c.before.before.before.before.before.before.before.if4.false) in
+    puts_one l.invariant t w.ensures.0 (ended _ _ _ r.0 r.1 l.invariant.small z c.before.before.before.before.before.before.if5.true (sym c.before.before.before.before.before.is-proper.ensures ∙ not-false _ c.before.before.before.before.if6.false)) (grows l.invariant.small z (omega (arith, r.1))) c.before.before.put-code2.ensures
 
 loop-less-4 : tie.Need-loop-smaller-4 invariant-loop decreases-loop
 loop-less-4 c = search rules
@@ -142,7 +142,7 @@ loop-again-4 c =
     let t = c.before.before.before.before.before.before.loop-test.true in
     let w = c.before.before.before.before.as_number in
     let z = c.before.before.before.if1.false in
-    let r = in_range 0x80 0xBF w.result (sym c.before.before.is-tail.ensures ∙ not_false _ c.before.if4.false) in
+    let r = in_range 0x80 0xBF w.result (sym c.before.before.is-tail.ensures ∙ not-false _ c.before.if4.false) in
     stays l.invariant t w.ensures.0 (onward _ _ _ r.0 r.1 l.invariant.small z c.if5.false) (grows l.invariant.small z (omega (arith, r.1)))
 
 told-requires-4 : tie.Need-told-requires-4 invariant-loop decreases-loop

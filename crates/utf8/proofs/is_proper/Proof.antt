@@ -1,6 +1,6 @@
 -- `is_proper` meets its contract: each return rewrites with the tests that led there.
 -- Assumes nothing.
-use borrow.Author.Tests.{lt_ltb, le-ltb, le-leb, lt-leb}
+use borrow.Author.Tests.{lt-ltb, le-ltb, le-leb, lt-leb}
 use Rattle.lists.specs.Tests.{within}
 use Rattle.utf8.specs.Utf8.{proper, scalar}
 use Rattle.utf8.proofs.is_proper.Statement.{statement}
@@ -12,7 +12,7 @@ returns c = simp (lt-leb _ _ c.if1.true)
 
 returns-2 : tie.Need-returns-2
 unfolding proper scalar
-returns-2 c = simp (le-leb _ _ c.before.if1.false, lt_ltb _ _ c.if2.true)
+returns-2 c = simp (le-leb _ _ c.before.if1.false, lt-ltb _ _ c.if2.true)
 
 returns-3 : tie.Need-returns-3
 unfolding proper scalar within

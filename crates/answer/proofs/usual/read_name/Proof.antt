@@ -4,7 +4,7 @@ use mathlib.Core.Path.{◌≡◌, refl, sym, ◌∙◌}
 use Prim.Native.Nat.{◌-◌}
 use native.Mathlib.Omega.{arith}
 use lib.ListN.{length, length-set}
-use borrow.Author.Tests.{eqb-true, not_false}
+use borrow.Author.Tests.{eqb-true, not-false}
 use Rattle.lists.proofs.Laws.{clash}
 use Rattle.answer.proofs.Reading.{Seen, begins, text, one, three}
 use borrow.Author.Rules.{rules}
@@ -168,9 +168,9 @@ loop-again-2 c =
     let l = c.before.before.before.before.before.before.before.before.before.before.before.before.before.before.before.loop in (
       length-set l.out l.n _ ∙ l.invariant.0,
       three l.invariant.1 (search rules) (search rules) c.before.before.before.before.before.before.before.before.before.before.before.before.as_number.ensures.0 c.before.before.before.before.before.before.as-number2.ensures.0 c.before.before.before.before.as-number3.ensures.0
-          (sym c.before.before.before.before.before.before.before.before.before.before.is_first.ensures ∙ not_false _ c.before.before.before.before.before.before.before.before.before.if3.false)
-          (sym c.before.before.before.in_range.ensures ∙ not_false _ c.before.before.if5.false)
-          (sym c.before.in-range2.ensures ∙ not_false _ c.if6.false),
+          (sym c.before.before.before.before.before.before.before.before.before.before.is_first.ensures ∙ not-false _ c.before.before.before.before.before.before.before.before.before.if3.false)
+          (sym c.before.before.before.in_range.ensures ∙ not-false _ c.before.before.if5.false)
+          (sym c.before.in-range2.ensures ∙ not-false _ c.if6.false),
     )
 
 said-requires-6 : tie.Need-said-requires-6 invariant-loop decreases-loop

@@ -5,7 +5,7 @@ use mathlib.Core.Bool.{true}
 use Prim.Native.Nat.{ℕ, ◌≤◌}
 use native.Mathlib.Omega.{arith}
 use lib.ListN.{length, drop}
-use borrow.Author.Tests.{not_false}
+use borrow.Author.Tests.{not-false}
 use Rattle.lists.proofs.Laws.{clash}
 use Rattle.rules.specs.Editions.{today_with}
 use Rattle.lines.specs.declared.Stretch.{Stretch}
@@ -99,7 +99,7 @@ part-put-text-start-2 c = search rules
 
 part-put-text-end-2 : tie.Need-slice-bounds-put-text-end-2
 part-put-text-end-2 c =
-    let read = c.before.before.before.before.before.read_name.ensures (not_false _ c.before.before.if3.false) in
+    let read = c.before.before.before.before.before.read_name.ensures (not-false _ c.before.before.if3.false) in
     omega (arith, read.inside, read.few)
 
 put-text-requires : tie.Need-put-text-requires
@@ -116,8 +116,8 @@ add-t12 c =
     let s = start.args.piece.now in
     let high : reach.id-reach.result ≤ length s = omega (arith, reach.id-reach.ensures) in
     let next = past_id s high (rw head_part at field.field_at.ensures) found.if1.false in
-    let good = rw head_part at (sym known.before.is-id.ensures ∙ not_false _ known.if2.false) in
-    let read = named.before.before.before.read_name.ensures (not_false _ named.if3.false) in
+    let good = rw head_part at (sym known.before.is-id.ensures ∙ not-false _ known.if2.false) in
+    let read = named.before.before.before.read_name.ensures (not-false _ named.if3.false) in
     let at-tab = rw head_part at (ap (λ (f : Stretch). f.end) field.field_at.ensures) in
     let after-tab = tail_part s _ ∙ ap (λ (n : ℕ). drop n s) next in
     let ends = inside s high at-tab found.if1.false good after-tab (omega (arith, read.inside)) read.ends read.no_controls in
@@ -137,8 +137,8 @@ returns-4 c =
     let s = start.args.piece.now in
     let high : reach.id-reach.result ≤ length s = omega (arith, reach.id-reach.ensures) in
     let next = past_id s high (rw head_part at field.field_at.ensures) found.if1.false in
-    let good = rw head_part at (sym known.before.is-id.ensures ∙ not_false _ known.if2.false) in
-    let read = named.before.before.before.read_name.ensures (not_false _ named.if3.false) in
+    let good = rw head_part at (sym known.before.is-id.ensures ∙ not-false _ known.if2.false) in
+    let read = named.before.before.before.read_name.ensures (not-false _ named.if3.false) in
     let at-tab = rw head_part at (ap (λ (f : Stretch). f.end) field.field_at.ensures) in
     let after-tab = tail_part s _ ∙ ap (λ (n : ℕ). drop n s) next in
     record {

@@ -3,7 +3,7 @@
 use Prim.Native.Nat.{◌-◌}
 use native.Mathlib.Omega.{arith}
 use lib.ListN.{length}
-use borrow.Author.Tests.{not-true, not_false}
+use borrow.Author.Tests.{not-true, not-false}
 use Rattle.rules.specs.Editions.{today_with}
 use Rattle.answer.specs.Answer.{answer_to, bad_answer}
 use Rattle.answer.proofs.Answering.{long_line}
@@ -59,35 +59,35 @@ add-wrote c =
     let end = c.before in
     let line = end.before.before.before.before in
     let loop = line.before.before.before in
-    omega (arith, turn_fits loop.before.loop.invariant loop.loop-test.true line.next-with.ensures (not_false _ end.if1.false), loop.before.before.before.before.before.well-formed.1.1.0.0)
+    omega (arith, turn_fits loop.before.loop.invariant loop.loop-test.true line.next-with.ensures (not-false _ end.if1.false), loop.before.before.before.before.before.well-formed.1.1.0.0)
 
 add_at : tie.Need-overflow-add-at invariant-loop decreases-loop
 add_at c =
     let end = c.before.before in
     let line = end.before.before.before.before in
     let loop = line.before.before.before in
-    omega (arith, turn_on loop.before.loop.invariant loop.loop-test.true line.next-with.ensures (not_false _ end.if1.false), loop.before.before.before.before.before.well-formed.1.0.0)
+    omega (arith, turn_on loop.before.loop.invariant loop.loop-test.true line.next-with.ensures (not-false _ end.if1.false), loop.before.before.before.before.before.well-formed.1.0.0)
 
 add-at-2 : tie.Need-overflow-add-at-2 invariant-loop decreases-loop
 add-at-2 c =
     let end = c.before.before in
     let line = end.before.before.before.before in
     let loop = line.before.before.before in
-    omega (arith, turn_on loop.before.loop.invariant loop.loop-test.true line.next-with.ensures (not_false _ end.if1.false), loop.before.before.before.before.before.well-formed.1.0.0)
+    omega (arith, turn_on loop.before.loop.invariant loop.loop-test.true line.next-with.ensures (not-false _ end.if1.false), loop.before.before.before.before.before.well-formed.1.0.0)
 
 loop-less : tie.Need-loop-smaller invariant-loop decreases-loop
 loop-less c =
     let end = c.before.before in
     let line = end.before.before.before.before in
     let loop = line.before.before.before in
-    omega (arith, turn_on loop.before.loop.invariant loop.loop-test.true line.next-with.ensures (not_false _ end.if1.false))
+    omega (arith, turn_on loop.before.loop.invariant loop.loop-test.true line.next-with.ensures (not-false _ end.if1.false))
 
 loop-again : tie.Need-loop-preserved invariant-loop decreases-loop
 loop-again c =
     let end = c.before.before in
     let line = end.before.before.before.before in
     let loop = line.before.before.before in
-    turn loop.before.loop.invariant loop.loop-test.true line.next-with.ensures (not_false _ end.if1.false) (long_line _)
+    turn loop.before.loop.invariant loop.loop-test.true line.next-with.ensures (not-false _ end.if1.false) (long_line _)
 
 same-length-2 : tie.Need-same-length-2 invariant-loop decreases-loop
 same-length-2 c = search rules

@@ -2,7 +2,7 @@
 -- Assumes nothing.
 use mathlib.Core.Path.{sym, ◌∙◌}
 use mathlib.Core.List.{[]}
-use borrow.Author.Tests.{lt_ltb, le-ltb}
+use borrow.Author.Tests.{lt-ltb, le-ltb}
 use Rattle.lists.proofs.Tables.{hit, passed_over}
 use Rattle.lists.specs.Rows.{first}
 use borrow.Author.Rules.{rules}
@@ -13,7 +13,7 @@ refused-requires : tie.Need-refused-requires
 refused-requires c κs = search rules
 
 returns : tie.Need-returns
-returns c = c.refused.ensures ∙ sym (hit 19 _ 0 [] (lt_ltb _ _ c.before.if1.true))
+returns c = c.refused.ensures ∙ sym (hit 19 _ 0 [] (lt-ltb _ _ c.before.if1.true))
 
 refused-requires-2 : tie.Need-refused-requires-2
 refused-requires-2 c κs = search rules

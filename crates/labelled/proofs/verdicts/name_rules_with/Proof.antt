@@ -2,7 +2,7 @@
 -- Assumes nothing.
 use mathlib.Core.Path.{sym, ap, ◌∙◌}
 use native.Mathlib.Omega.{arith}
-use borrow.Author.Tests.{not-true, not_false}
+use borrow.Author.Tests.{not-true, not-false}
 use Rattle.rules.specs.Rules.{by_labels}
 use Rattle.labelled.proofs.Cutting.{ends_at}
 use Rattle.labelled.proofs.OfName.{three_refused, other_count}
@@ -92,7 +92,7 @@ part-three-labels-end-3 : tie.Need-slice-bounds-three-labels-end-3
 part-three-labels-end-3 c = let p = (ends_at _ c.before.before.before.before.before.before.before.before.label-ends.ensures).three c.before.before.before.before.if2.true in omega (arith, p.0, p.1)
 
 three-labels-requires : tie.Need-three-labels-requires
-three-labels-requires c κs = sym c.before.before.before.before.has-prefectures.ensures ∙ not_false _ c.before.before.before.if3.false
+three-labels-requires c κs = sym c.before.before.before.before.has-prefectures.ensures ∙ not-false _ c.before.before.before.if3.false
 
 returns-3 : tie.Need-returns-3
 returns-3 c = c.three_labels.ensures ∙ ap (by_labels _) (sym ((ends_at _ c.before.before.before.before.before.before.before.before.before.before.label-ends.ensures).three c.before.before.before.before.before.before.if2.true).2)

@@ -2,7 +2,7 @@
 -- Assumes nothing.
 use mathlib.Core.Path.{sym, ap, ◌∙◌}
 use mathlib.Core.Bool.{not}
-use borrow.Author.Tests.{not-true, not_false}
+use borrow.Author.Tests.{not-true, not-false}
 use Rattle.rules.specs.Rules.{class_of}
 use Rattle.rules.proofs.Steps.{name_left, name_11, name_12, name_0}
 use Rattle.labelled.proofs.OfName.{three_0, three_1, three_2, three_filled, lent_three, lent_may, middle_is}
@@ -54,13 +54,13 @@ accepted-requires c κs = search rules
 
 returns-6 : tie.Need-returns-6
 unfolding class_of
-returns-6 c = c.accepted.ensures ∙ sym (name_0 _ _ (lent_may _ _ c.before.before.before.before.before.before.before.before.before.before.before.before.before.before.before.requires) (three_filled _ _ _ c.before.before.before.before.before.before.before.before.before.before.if1.false c.before.before.before.before.before.before.before.before.before.if2.false c.before.before.before.before.before.before.before.before.if3.false) c.before.before.before.before.before.before.before.label-rule-with.ensures c.before.before.before.before.before.if4.false (sym c.before.before.before.before.is-jp.ensures ∙ not_false _ c.before.before.before.if5.false) (ap not (sym (middle_is _ _ _ c.before.before.is-prefecture.ensures) ∙ c.before.if6.true)))
+returns-6 c = c.accepted.ensures ∙ sym (name_0 _ _ (lent_may _ _ c.before.before.before.before.before.before.before.before.before.before.before.before.before.before.before.requires) (three_filled _ _ _ c.before.before.before.before.before.before.before.before.before.before.if1.false c.before.before.before.before.before.before.before.before.before.if2.false c.before.before.before.before.before.before.before.before.if3.false) c.before.before.before.before.before.before.before.label-rule-with.ensures c.before.before.before.before.before.if4.false (sym c.before.before.before.before.is-jp.ensures ∙ not-false _ c.before.before.before.if5.false) (ap not (sym (middle_is _ _ _ c.before.before.is-prefecture.ensures) ∙ c.before.if6.true)))
 
 refused-requires-6 : tie.Need-refused-requires-6
 refused-requires-6 c κs = search rules
 
 returns-7 : tie.Need-returns-7
-returns-7 c = c.refused6.ensures ∙ sym (name_12 _ _ (lent_may _ _ c.before.before.before.before.before.before.before.before.before.before.before.before.before.before.before.requires) (three_filled _ _ _ c.before.before.before.before.before.before.before.before.before.before.if1.false c.before.before.before.before.before.before.before.before.before.if2.false c.before.before.before.before.before.before.before.before.if3.false) c.before.before.before.before.before.before.before.label-rule-with.ensures c.before.before.before.before.before.if4.false (sym c.before.before.before.before.is-jp.ensures ∙ not_false _ c.before.before.before.if5.false) (ap not (sym (middle_is _ _ _ c.before.before.is-prefecture.ensures) ∙ c.before.if6.false)))
+returns-7 c = c.refused6.ensures ∙ sym (name_12 _ _ (lent_may _ _ c.before.before.before.before.before.before.before.before.before.before.before.before.before.before.before.requires) (three_filled _ _ _ c.before.before.before.before.before.before.before.before.before.before.if1.false c.before.before.before.before.before.before.before.before.before.if2.false c.before.before.before.before.before.before.before.before.if3.false) c.before.before.before.before.before.before.before.label-rule-with.ensures c.before.before.before.before.before.if4.false (sym c.before.before.before.before.is-jp.ensures ∙ not-false _ c.before.before.before.if5.false) (ap not (sym (middle_is _ _ _ c.before.before.is-prefecture.ensures) ∙ c.before.if6.false)))
 
 pub three-labels-spec : {M : Type 1} → statement M
 three-labels-spec =

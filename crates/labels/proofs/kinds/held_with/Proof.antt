@@ -4,7 +4,7 @@ use mathlib.Core.Path.{refl, sym, ◌∙◌}
 use Prim.Native.Nat.{◌-◌}
 use native.Mathlib.Omega.{arith}
 use lib.ListN.{length}
-use borrow.Author.Tests.{not-true, not_false}
+use borrow.Author.Tests.{not-true, not-false}
 use Rattle.characters.specs.Characters.{kind_letter, any_kind}
 use Rattle.rules.specs.Kinds.{same_kind}
 use Rattle.labels.proofs.Holding.{together, only, HeldSoFar, unseen, ascii_on, ascii_not, kind_on, kind_not, all_seen}
@@ -44,7 +44,7 @@ loop-less : tie.Need-loop-smaller invariant-loop decreases-loop
 loop-less c = search rules
 
 loop-again : tie.Need-loop-preserved invariant-loop decreases-loop
-loop-again c = ascii_on _ _ _ c.before.before.before.before.before.loop.invariant (omega arith) c.before.before.if1.true c.before.is_ascii.ensures (not_false _ c.if2.false)
+loop-again c = ascii_on _ _ _ c.before.before.before.before.before.loop.invariant (omega arith) c.before.before.if1.true c.before.is_ascii.ensures (not-false _ c.if2.false)
 
 kind-with-requires : tie.Need-kind-with-requires invariant-loop decreases-loop
 kind-with-requires c κs = search rules

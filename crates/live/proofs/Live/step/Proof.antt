@@ -1,6 +1,6 @@
 -- `step` meets its contract: the two ways of the branch are the two of `stepped`.
 -- Assumes nothing.
-use borrow.Author.Tests.{lt_ltb, le-ltb}
+use borrow.Author.Tests.{lt-ltb, le-ltb}
 use borrow.Author.Rules.{rules}
 use Rattle.live.specs.Live.{stepped}
 use Rattle.live.proofs.Live.step.Statement.{statement}
@@ -17,7 +17,7 @@ add-self c = search rules
 
 returns : tie.Need-returns
 unfolding stepped
-returns c = simp (lt_ltb _ _ c.if1.true)
+returns c = simp (lt-ltb _ _ c.if1.true)
 
 returns-2 : tie.Need-returns-2
 unfolding stepped

@@ -3,7 +3,7 @@
 -- Assumes nothing.
 use mathlib.Core.Path.{◌∙◌}
 use native.Mathlib.Omega.{arith}
-use borrow.Author.Tests.{not-true, not_false}
+use borrow.Author.Tests.{not-true, not-false}
 use Rattle.fronts.proofs.Fronting.{told_refused, told_unfit, told_fit, told_some, told_fits}
 use Rattle.names.proofs.Judging.{judges_25, judges_front, judges_on}
 use Rattle.labelled.proofs.OfName.{lent_known}
@@ -27,13 +27,13 @@ same-length-2 : tie.Need-same-length-2
 same-length-2 c = search rules
 
 returns-2 : tie.Need-returns-2
-returns-2 c = judges_front _ (lent_known _ _ c.before.before.before.is-edition.ensures ∙ not_false _ c.before.before.if1.false) (told_refused _ c.before.before.before.before.before.before.front-with.ensures (omega (arith, c.before.before.before.before.before.before.before.before.before.before.before.requires)) c.if2.true) c.if2.true
+returns-2 c = judges_front _ (lent_known _ _ c.before.before.before.is-edition.ensures ∙ not-false _ c.before.before.if1.false) (told_refused _ c.before.before.before.before.before.before.front-with.ensures (omega (arith, c.before.before.before.before.before.before.before.before.before.before.before.requires)) c.if2.true) c.if2.true
 
 same-length-3 : tie.Need-same-length-3
 same-length-3 c = search rules
 
 returns-3 : tie.Need-returns-3
-returns-3 c = judges_front _ (lent_known _ _ c.before.before.before.before.is-edition.ensures ∙ not_false _ c.before.before.before.if1.false) (told_unfit _ c.before.before.before.before.before.before.before.front-with.ensures (omega (arith, c.before.before.before.before.before.before.before.before.before.before.before.before.requires)) c.before.if2.false c.if3.true) (λ z. omega arith)
+returns-3 c = judges_front _ (lent_known _ _ c.before.before.before.before.is-edition.ensures ∙ not-false _ c.before.before.before.if1.false) (told_unfit _ c.before.before.before.before.before.before.before.front-with.ensures (omega (arith, c.before.before.before.before.before.before.before.before.before.before.before.before.requires)) c.before.if2.false c.if3.true) (λ z. omega arith)
 
 sub-name-rules-with : tie.Need-overflow-sub-name-rules-with
 sub-name-rules-with c = search rules
@@ -51,7 +51,7 @@ same-length-4 : tie.Need-same-length-4
 same-length-4 c = search rules
 
 returns-4 : tie.Need-returns-4
-returns-4 c = judges_on _ (lent_known _ _ c.before.before.before.before.before.before.before.is-edition.ensures ∙ not_false _ c.before.before.before.before.before.before.if1.false) (told_fit _ c.before.before.before.before.before.before.before.before.before.before.front-with.ensures (omega (arith, c.before.before.before.before.before.before.before.before.before.before.before.before.before.before.before.requires)) c.before.before.before.before.if2.false c.before.before.before.if3.false) c.name-rules-with.ensures
+returns-4 c = judges_on _ (lent_known _ _ c.before.before.before.before.before.before.before.is-edition.ensures ∙ not-false _ c.before.before.before.before.before.before.if1.false) (told_fit _ c.before.before.before.before.before.before.before.before.before.before.front-with.ensures (omega (arith, c.before.before.before.before.before.before.before.before.before.before.before.before.before.before.before.requires)) c.before.before.before.before.if2.false c.before.before.before.if3.false) c.name-rules-with.ensures
 
 pub judge-into-spec : {M : Type 1} → statement M
 judge-into-spec =

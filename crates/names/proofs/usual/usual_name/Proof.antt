@@ -2,7 +2,7 @@
 -- Assumes nothing.
 use native.Mathlib.Omega.{arith}
 use lib.ListN.{length-set}
-use borrow.Author.Tests.{not-true, not_false}
+use borrow.Author.Tests.{not-true, not-false}
 use Rattle.rules.proofs.Editions.{lent_stretch, lent_short}
 use Rattle.names.proofs.UsualName.{lent_marks, usual_refused, label_writable, usual_uncoded, at_most, usual_accepted}
 use borrow.Author.Rules.{rules}
@@ -34,28 +34,28 @@ returns-2 : tie.Need-returns-2
 returns-2 c = usual_uncoded _ (lent_stretch _ _) (lent_short _ _) (lent_marks _ _) _ c.before.before.before.before.before.before.before.before.before.before.before.before.before.before.requires.0 c.before.before.before.before.before.before.before.before.before.before.any-kind.ensures c.before.before.before.before.before.before.before.before.before.known-rule-with.ensures c.before.before.before.before.before.before.before.if1.false c.before.before.before.before.before.put-label.ensures c.before.before.before.before.before.before.before.before.before.before.before.before.before.before.requires.1 (not-true _ c.before.if2.true) c.refused-form2.ensures
 
 slice-write-out : tie.Need-slice-write-out
-slice-write-out c = let h = at_most _ (lent_stretch _ _) (lent_short _ _) (lent_marks _ _) _ c.before.before.before.before.before.before.before.before.before.before.before.before.before.requires.0 c.before.before.before.before.before.before.before.before.before.any-kind.ensures c.before.before.before.before.before.before.before.before.known-rule-with.ensures c.before.before.before.before.before.before.if1.false c.before.before.before.before.put-label.ensures (not_false _ c.if2.false) in omega (arith, c.before.before.before.before.put-label.auto.1.1.1.0, c.before.before.before.before.before.before.before.before.before.before.before.before.before.requires.1)
+slice-write-out c = let h = at_most _ (lent_stretch _ _) (lent_short _ _) (lent_marks _ _) _ c.before.before.before.before.before.before.before.before.before.before.before.before.before.requires.0 c.before.before.before.before.before.before.before.before.before.any-kind.ensures c.before.before.before.before.before.before.before.before.known-rule-with.ensures c.before.before.before.before.before.before.if1.false c.before.before.before.before.put-label.ensures (not-false _ c.if2.false) in omega (arith, c.before.before.before.before.put-label.auto.1.1.1.0, c.before.before.before.before.before.before.before.before.before.before.before.before.before.requires.1)
 
 add-out : tie.Need-overflow-add-out
-add-out c = let h = at_most _ (lent_stretch _ _) (lent_short _ _) (lent_marks _ _) _ c.before.before.before.before.before.before.before.before.before.before.before.before.before.requires.0 c.before.before.before.before.before.before.before.before.before.any-kind.ensures c.before.before.before.before.before.before.before.before.known-rule-with.ensures c.before.before.before.before.before.before.if1.false c.before.before.before.before.put-label.ensures (not_false _ c.if2.false) in omega (arith, c.before.before.before.before.put-label.auto.1.1.1.0, c.before.before.before.before.before.before.before.before.before.before.before.before.before.requires.1)
+add-out c = let h = at_most _ (lent_stretch _ _) (lent_short _ _) (lent_marks _ _) _ c.before.before.before.before.before.before.before.before.before.before.before.before.before.requires.0 c.before.before.before.before.before.before.before.before.before.any-kind.ensures c.before.before.before.before.before.before.before.before.known-rule-with.ensures c.before.before.before.before.before.before.if1.false c.before.before.before.before.put-label.ensures (not-false _ c.if2.false) in omega (arith, c.before.before.before.before.put-label.auto.1.1.1.0, c.before.before.before.before.before.before.before.before.before.before.before.before.before.requires.1)
 
 slice-write-out-2 : tie.Need-slice-write-out-2
-slice-write-out-2 c = simp length-set (let h = at_most _ (lent_stretch _ _) (lent_short _ _) (lent_marks _ _) _ c.before.before.before.before.before.before.before.before.before.before.before.before.before.requires.0 c.before.before.before.before.before.before.before.before.before.any-kind.ensures c.before.before.before.before.before.before.before.before.known-rule-with.ensures c.before.before.before.before.before.before.if1.false c.before.before.before.before.put-label.ensures (not_false _ c.if2.false) in omega (arith, c.before.before.before.before.put-label.auto.1.1.1.0, c.before.before.before.before.before.before.before.before.before.before.before.before.before.requires.1))
+slice-write-out-2 c = simp length-set (let h = at_most _ (lent_stretch _ _) (lent_short _ _) (lent_marks _ _) _ c.before.before.before.before.before.before.before.before.before.before.before.before.before.requires.0 c.before.before.before.before.before.before.before.before.before.any-kind.ensures c.before.before.before.before.before.before.before.before.known-rule-with.ensures c.before.before.before.before.before.before.if1.false c.before.before.before.before.put-label.ensures (not-false _ c.if2.false) in omega (arith, c.before.before.before.before.put-label.auto.1.1.1.0, c.before.before.before.before.before.before.before.before.before.before.before.before.before.requires.1))
 
 add-out-2 : tie.Need-overflow-add-out-2
-add-out-2 c = let h = at_most _ (lent_stretch _ _) (lent_short _ _) (lent_marks _ _) _ c.before.before.before.before.before.before.before.before.before.before.before.before.before.requires.0 c.before.before.before.before.before.before.before.before.before.any-kind.ensures c.before.before.before.before.before.before.before.before.known-rule-with.ensures c.before.before.before.before.before.before.if1.false c.before.before.before.before.put-label.ensures (not_false _ c.if2.false) in omega (arith, c.before.before.before.before.put-label.auto.1.1.1.0, c.before.before.before.before.before.before.before.before.before.before.before.before.before.requires.1)
+add-out-2 c = let h = at_most _ (lent_stretch _ _) (lent_short _ _) (lent_marks _ _) _ c.before.before.before.before.before.before.before.before.before.before.before.before.before.requires.0 c.before.before.before.before.before.before.before.before.before.any-kind.ensures c.before.before.before.before.before.before.before.before.known-rule-with.ensures c.before.before.before.before.before.before.if1.false c.before.before.before.before.put-label.ensures (not-false _ c.if2.false) in omega (arith, c.before.before.before.before.put-label.auto.1.1.1.0, c.before.before.before.before.before.before.before.before.before.before.before.before.before.requires.1)
 
 slice-write-out-3 : tie.Need-slice-write-out-3
-slice-write-out-3 c = simp length-set (let h = at_most _ (lent_stretch _ _) (lent_short _ _) (lent_marks _ _) _ c.before.before.before.before.before.before.before.before.before.before.before.before.before.requires.0 c.before.before.before.before.before.before.before.before.before.any-kind.ensures c.before.before.before.before.before.before.before.before.known-rule-with.ensures c.before.before.before.before.before.before.if1.false c.before.before.before.before.put-label.ensures (not_false _ c.if2.false) in omega (arith, c.before.before.before.before.put-label.auto.1.1.1.0, c.before.before.before.before.before.before.before.before.before.before.before.before.before.requires.1))
+slice-write-out-3 c = simp length-set (let h = at_most _ (lent_stretch _ _) (lent_short _ _) (lent_marks _ _) _ c.before.before.before.before.before.before.before.before.before.before.before.before.before.requires.0 c.before.before.before.before.before.before.before.before.before.any-kind.ensures c.before.before.before.before.before.before.before.before.known-rule-with.ensures c.before.before.before.before.before.before.if1.false c.before.before.before.before.put-label.ensures (not-false _ c.if2.false) in omega (arith, c.before.before.before.before.put-label.auto.1.1.1.0, c.before.before.before.before.before.before.before.before.before.before.before.before.before.requires.1))
 
 add-t14 : tie.Need-overflow-add-t14
-add-t14 c = let h = at_most _ (lent_stretch _ _) (lent_short _ _) (lent_marks _ _) _ c.before.before.before.before.before.before.before.before.before.before.before.before.before.requires.0 c.before.before.before.before.before.before.before.before.before.any-kind.ensures c.before.before.before.before.before.before.before.before.known-rule-with.ensures c.before.before.before.before.before.before.if1.false c.before.before.before.before.put-label.ensures (not_false _ c.if2.false) in omega (arith, c.before.before.before.before.put-label.auto.1.1.1.0, c.before.before.before.before.before.before.before.before.before.before.before.before.before.requires.1)
+add-t14 c = let h = at_most _ (lent_stretch _ _) (lent_short _ _) (lent_marks _ _) _ c.before.before.before.before.before.before.before.before.before.before.before.before.before.requires.0 c.before.before.before.before.before.before.before.before.before.any-kind.ensures c.before.before.before.before.before.before.before.before.known-rule-with.ensures c.before.before.before.before.before.before.if1.false c.before.before.before.before.put-label.ensures (not-false _ c.if2.false) in omega (arith, c.before.before.before.before.put-label.auto.1.1.1.0, c.before.before.before.before.before.before.before.before.before.before.before.before.before.requires.1)
 
 same-length-2 : tie.Need-same-length-2
 same-length-2 c = search rules
 
 returns-3 : tie.Need-returns-3
-returns-3 c = usual_accepted _ (lent_stretch _ _) (lent_short _ _) (lent_marks _ _) _ c.before.before.before.before.before.before.before.before.before.before.before.before.before.requires.0 c.before.before.before.before.before.before.before.before.before.any-kind.ensures c.before.before.before.before.before.before.before.before.known-rule-with.ensures c.before.before.before.before.before.before.if1.false c.before.before.before.before.put-label.ensures (not_false _ c.if2.false) c.before.before.before.before.before.before.before.before.before.before.before.before.before.requires.1 (let h = at_most _ (lent_stretch _ _) (lent_short _ _) (lent_marks _ _) _ c.before.before.before.before.before.before.before.before.before.before.before.before.before.requires.0 c.before.before.before.before.before.before.before.before.before.any-kind.ensures c.before.before.before.before.before.before.before.before.known-rule-with.ensures c.before.before.before.before.before.before.if1.false c.before.before.before.before.put-label.ensures (not_false _ c.if2.false) in omega (arith, c.before.before.before.before.put-label.auto.1.1.1.0, c.before.before.before.before.before.before.before.before.before.before.before.before.before.requires.1))
+returns-3 c = usual_accepted _ (lent_stretch _ _) (lent_short _ _) (lent_marks _ _) _ c.before.before.before.before.before.before.before.before.before.before.before.before.before.requires.0 c.before.before.before.before.before.before.before.before.before.any-kind.ensures c.before.before.before.before.before.before.before.before.known-rule-with.ensures c.before.before.before.before.before.before.if1.false c.before.before.before.before.put-label.ensures (not-false _ c.if2.false) c.before.before.before.before.before.before.before.before.before.before.before.before.before.requires.1 (let h = at_most _ (lent_stretch _ _) (lent_short _ _) (lent_marks _ _) _ c.before.before.before.before.before.before.before.before.before.before.before.before.before.requires.0 c.before.before.before.before.before.before.before.before.before.any-kind.ensures c.before.before.before.before.before.before.before.before.known-rule-with.ensures c.before.before.before.before.before.before.if1.false c.before.before.before.before.put-label.ensures (not-false _ c.if2.false) in omega (arith, c.before.before.before.before.put-label.auto.1.1.1.0, c.before.before.before.before.before.before.before.before.before.before.before.before.before.requires.1))
 
 pub usual-name-spec : {M : Type 1} → statement M
 usual-name-spec =

@@ -2,7 +2,7 @@
 -- Assumes nothing.
 use mathlib.Core.Path.{refl}
 use native.Mathlib.Omega.{arith}
-use borrow.Author.Tests.{not-true, not_false}
+use borrow.Author.Tests.{not-true, not-false}
 use Rattle.rules.proofs.Editions.{lent_short}
 use Rattle.names.proofs.Answering.{accepted_as, answer_is, ascii_refused}
 use Rattle.names.proofs.Enough.{ready, put_size, piece_length, stopped, finished}
@@ -56,11 +56,11 @@ part-copy-start : tie.Need-slice-bounds-copy-start
 part-copy-start c = search rules
 
 part-copy-end : tie.Need-slice-bounds-copy-end
-part-copy-end c = let h = put_size _ _ c.before.before.before.before.before.before.before.before.before.before.before.judge-into.ensures c.before.before.before.before.before.before.before.before.if1.false c.before.before.before.before.put-labels.ensures (not_false _ c.before.if2.false) in omega arith
+part-copy-end c = let h = put_size _ _ c.before.before.before.before.before.before.before.before.before.before.before.judge-into.ensures c.before.before.before.before.before.before.before.before.if1.false c.before.before.before.before.put-labels.ensures (not-false _ c.before.if2.false) in omega arith
 
 copy-requires : tie.Need-copy-requires
 copy-requires c κs =
-    let y = not_false _ c.before.before.before.if2.false in
+    let y = not-false _ c.before.before.before.if2.false in
     let e = c.before.before.before.before.before.before.before.before.before.before.before.before.before.judge-into.ensures in
     let z = c.before.before.before.before.before.before.before.before.before.before.if1.false in
     let t = c.before.before.before.before.before.before.put-labels.ensures in
@@ -88,7 +88,7 @@ same_length c = search rules
 
 returns-3 : tie.Need-returns-3
 returns-3 c =
-    finished _ _ c.before.before.before.before.before.before.before.before.before.before.before.before.before.before.before.before.before.before.judge-into.ensures c.before.before.before.before.before.before.before.before.before.before.before.before.before.before.before.if1.false c.before.before.before.before.before.before.before.before.before.before.before.put-labels.ensures _ c.before.before.before.before.before.before.before.before.before.before.before.before.before.before.before.before.before.before.before.before.before.before.before.requires (not_false _ c.before.before.before.before.before.before.before.before.if2.false) refl
+    finished _ _ c.before.before.before.before.before.before.before.before.before.before.before.before.before.before.before.before.before.before.judge-into.ensures c.before.before.before.before.before.before.before.before.before.before.before.before.before.before.before.if1.false c.before.before.before.before.before.before.before.before.before.before.before.put-labels.ensures _ c.before.before.before.before.before.before.before.before.before.before.before.before.before.before.before.before.before.before.before.before.before.before.before.requires (not-false _ c.before.before.before.before.before.before.before.before.if2.false) refl
     c.before.before.before.before.copy.ensures.1 c.leftmost_kinds.ensures
 
 pub any-name-spec : {M : Type 1} → statement M

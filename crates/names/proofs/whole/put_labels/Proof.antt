@@ -4,7 +4,7 @@ use mathlib.Core.Path.{◌∙◌}
 use Prim.Native.Nat.{◌-◌}
 use native.Mathlib.Omega.{arith}
 use lib.ListN.{length}
-use borrow.Author.Tests.{not-true, not_false}
+use borrow.Author.Tests.{not-true, not-false}
 use Rattle.rules.specs.Editions.{edition_with}
 use Rattle.names.proofs.Joining.{Naming, names, turn_bounds, out_length, this_writable, this_room, turn_refused, names_last, period_room, names_on}
 use borrow.Author.Rules.{rules}
@@ -48,14 +48,14 @@ same-length-2 : tie.Need-same-length-2 invariant-loop decreases-loop
 same-length-2 c = c.before.before.before.before.before.put-label.auto.1.1.1.0 ∙ out_length _ c.before.before.before.before.before.before.before.before.before.loop.invariant _ c.before.before.before.before.before.before.before.before.label-end.ensures
 
 returns-2 : tie.Need-returns-2 invariant-loop decreases-loop
-returns-2 c = names_last _ c.before.before.before.before.before.before.before.before.before.loop.invariant _ c.before.before.before.before.before.before.before.before.label-end.ensures c.before.before.before.before.before.put-label.ensures.puts (not_false _ c.before.if1.false) c.if2.true
+returns-2 c = names_last _ c.before.before.before.before.before.before.before.before.before.loop.invariant _ c.before.before.before.before.before.before.before.before.label-end.ensures c.before.before.before.before.before.put-label.ensures.puts (not-false _ c.before.if1.false) c.if2.true
 
 slice-write-out : tie.Need-slice-write-out invariant-loop decreases-loop
-slice-write-out c = period_room _ c.before.before.before.before.before.before.before.before.before.loop.invariant _ c.before.before.before.before.before.before.before.before.label-end.ensures c.before.before.before.before.before.put-label.ensures.puts (not_false _ c.before.if1.false) c.before.before.before.before.before.put-label.auto.1.1.1.0
+slice-write-out c = period_room _ c.before.before.before.before.before.before.before.before.before.loop.invariant _ c.before.before.before.before.before.before.before.before.label-end.ensures c.before.before.before.before.before.put-label.ensures.puts (not-false _ c.before.if1.false) c.before.before.before.before.before.put-label.auto.1.1.1.0
 
 add_at : tie.Need-overflow-add-at invariant-loop decreases-loop
 add_at c =
-    let h = period_room _ c.before.before.before.before.before.before.before.before.before.loop.invariant _ c.before.before.before.before.before.before.before.before.label-end.ensures c.before.before.before.before.before.put-label.ensures.puts (not_false _ c.before.if1.false) c.before.before.before.before.before.put-label.auto.1.1.1.0 in
+    let h = period_room _ c.before.before.before.before.before.before.before.before.before.loop.invariant _ c.before.before.before.before.before.before.before.before.label-end.ensures c.before.before.before.before.before.put-label.ensures.puts (not-false _ c.before.if1.false) c.before.before.before.before.before.put-label.auto.1.1.1.0 in
     let s = c.before.before.before.before.before.put-label.auto.1.1.1.0 ∙ out_length _ c.before.before.before.before.before.before.before.before.before.loop.invariant _ c.before.before.before.before.before.before.before.before.label-end.ensures in
     omega (arith, c.before.before.before.before.before.before.before.before.before.before.before.before.before.well-formed.1.1.1.0)
 
@@ -67,8 +67,8 @@ loop-less c = let b = turn_bounds _ c.before.before.before.before.before.before.
 
 loop-again : tie.Need-loop-preserved invariant-loop decreases-loop
 loop-again c =
-    names_on _ c.before.before.before.before.before.before.before.before.before.loop.invariant _ c.before.before.before.before.before.before.before.before.label-end.ensures c.before.before.before.before.before.put-label.ensures.puts (not_false _ c.before.if1.false)
-    (period_room _ c.before.before.before.before.before.before.before.before.before.loop.invariant _ c.before.before.before.before.before.before.before.before.label-end.ensures c.before.before.before.before.before.put-label.ensures.puts (not_false _ c.before.if1.false) c.before.before.before.before.before.put-label.auto.1.1.1.0)
+    names_on _ c.before.before.before.before.before.before.before.before.before.loop.invariant _ c.before.before.before.before.before.before.before.before.label-end.ensures c.before.before.before.before.before.put-label.ensures.puts (not-false _ c.before.if1.false)
+    (period_room _ c.before.before.before.before.before.before.before.before.before.loop.invariant _ c.before.before.before.before.before.before.before.before.label-end.ensures c.before.before.before.before.before.put-label.ensures.puts (not-false _ c.before.if1.false) c.before.before.before.before.before.put-label.auto.1.1.1.0)
     c.if2.false
 
 pub put-labels-spec : {M : Type 1} → statement M

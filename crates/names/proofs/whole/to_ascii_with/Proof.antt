@@ -2,7 +2,7 @@
 -- Assumes nothing.
 use mathlib.Core.Path.{sym, ◌∙◌}
 use native.Mathlib.Omega.{arith}
-use borrow.Author.Tests.{not-true, not_false}
+use borrow.Author.Tests.{not-true, not-false}
 use Rattle.names.proofs.Answering.{ascii_no_room, ascii_25}
 use Rattle.labelled.proofs.OfName.{lent_known}
 use Rattle.names.proofs.UsualName.{ending_sizes, usual_label, as_text}
@@ -38,7 +38,7 @@ returns-3 : tie.Need-returns-3
 returns-3 c = search rules
 
 sub-n : tie.Need-overflow-sub-n
-sub-n c = let s = ending_sizes _ (sym c.before.ends-in-jp.ensures ∙ not_false _ c.if3.false) in omega arith
+sub-n c = let s = ending_sizes _ (sym c.before.ends-in-jp.ensures ∙ not-false _ c.if3.false) in omega arith
 
 sub-held-with : tie.Need-overflow-sub-held-with
 sub-held-with c = search rules
@@ -71,13 +71,13 @@ part-usual-name-end : tie.Need-slice-bounds-usual-name-end
 part-usual-name-end c = search rules
 
 usual-name-requires : tie.Need-usual-name-requires
-usual-name-requires c κs = (usual_label _ (sym c.before.before.before.before.before.before.before.ends-in-jp.ensures ∙ not_false _ c.before.before.before.before.before.before.if3.false) _ (lent_known _ _ c.before.before.before.before.before.before.before.before.before.is-edition.ensures ∙ not_false _ c.before.before.before.before.before.before.before.before.if2.false) c.before.before.before.before.held_with.ensures (not_false _ c.before.before.if4.false), c.before.before.before.before.before.before.before.before.before.before.if1.false)
+usual-name-requires c κs = (usual_label _ (sym c.before.before.before.before.before.before.before.ends-in-jp.ensures ∙ not-false _ c.before.before.before.before.before.before.if3.false) _ (lent_known _ _ c.before.before.before.before.before.before.before.before.before.is-edition.ensures ∙ not-false _ c.before.before.before.before.before.before.before.before.if2.false) c.before.before.before.before.held_with.ensures (not-false _ c.before.before.if4.false), c.before.before.before.before.before.before.before.before.before.before.if1.false)
 
 same-length-3 : tie.Need-same-length-3
 same-length-3 c = search rules
 
 returns-5 : tie.Need-returns-5
-returns-5 c = as_text _ (sym c.before.before.before.before.before.before.before.before.before.before.ends-in-jp.ensures ∙ not_false _ c.before.before.before.before.before.before.before.before.before.if3.false) _ c.before.before.usual-name.ensures
+returns-5 c = as_text _ (sym c.before.before.before.before.before.before.before.before.before.before.ends-in-jp.ensures ∙ not-false _ c.before.before.before.before.before.before.before.before.before.if3.false) _ c.before.before.usual-name.ensures
 
 pub to-ascii-with-spec : {M : Type 1} → statement M
 to-ascii-with-spec =

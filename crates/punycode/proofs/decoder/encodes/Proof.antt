@@ -3,7 +3,7 @@
 use mathlib.Core.Path.{sym, ◌∙◌}
 use native.Mathlib.Omega.{arith}
 use borrow.Author.Rules.{rules}
-use borrow.Author.Tests.{not-true, not_false}
+use borrow.Author.Tests.{not-true, not-false}
 use Rattle.punycode.proofs.Answers.{from_start, encodes_no, encodes_if}
 use Rattle.punycode.proofs.Rungs.{encodable_size}
 use Rattle.punycode.proofs.decoder.encodes.Statement.{statement}
@@ -36,7 +36,7 @@ same-requires c κs = search rules
 returns-3 : tie.Need-returns-3
 returns-3 c =
     let t = c.before.before.before.before.before.ace in
-    let ok = not_false _ c.before.before.before.if2.false in
+    let ok = not-false _ c.before.before.before.if2.false in
     encodes_if c.before.before.before.before.before.before.before.before.before.before.args.l.now c.before.before.before.before.before.before.before.before.before.before.args.low.now c.same.result _ (sym t.ensures.0 ∙ ok) (omega arith)
     (from_start t.result.at t.new.1.0 ∙ t.ensures.2 ok) c.same.ensures.0 c.same.ensures.1
 

@@ -4,7 +4,7 @@ use mathlib.Core.Path.{sym, ap, ◌∙◌}
 use native.Mathlib.Omega.{arith}
 use lib.ListN.{take}
 use borrow.Author.Rules.{rules}
-use borrow.Author.Tests.{not-true, not_false}
+use borrow.Author.Tests.{not-true, not-false}
 use Rattle.punycode.specs.Decoding.{decode, encodes}
 use Rattle.punycode.proofs.Answers.{to_end, from_start, found_short, found_none, found_some}
 use Rattle.punycode.proofs.decoder.found.Statement.{statement}
@@ -55,7 +55,7 @@ returns-3 c =
     let low = c.before.before.before.before.before.before.before.before.before.before.before.before.args.low.now in
     let text = d.new.1.0 in (
       omega arith,
-      found_some low d.result.ok (take d.result.len text) (ap decode (sym (to_end 4 low)) ∙ d.ensures.1) _ (not_false _ c.before.before.before.if2.false)
+      found_some low d.result.ok (take d.result.len text) (ap decode (sym (to_end 4 low)) ∙ d.ensures.1) _ (not-false _ c.before.before.before.if2.false)
           (c.encodes.ensures ∙ ap (λ x. encodes x low) (from_start d.result.len text)),
     )
 

@@ -2,7 +2,7 @@
 -- Assumes nothing.
 use native.Mathlib.Omega.{arith}
 use borrow.Author.Rules.{rules}
-use borrow.Author.Tests.{not-true, not_false}
+use borrow.Author.Tests.{not-true, not-false}
 use Rattle.punycode.specs.Inner.{read}
 use Rattle.punycode.proofs.Machine.{octet_no, octet_none, octet_over, octet_last, octet_more, octet_fits}
 use Rattle.punycode.proofs.decoder.octet.Statement.{statement}
@@ -24,7 +24,7 @@ returns-2 c =
     let a = c.before.before.before.before.before.args in
     let v = c.before.before.value in
     let r = c.stopped in
-    let is = not_false a.s.ok c.before.before.before.if1.false in
+    let is = not-false a.s.ok c.before.before.before.if1.false in
     (r.ensures.0, omega arith, omega arith, octet_none a.c a.s a.out.now is v.result v.ensures.0 r.result _ r.ensures.1 (omega arith))
 
 weighed-requires : tie.Need-weighed-requires
@@ -42,7 +42,7 @@ returns-3 c =
     let v = c.before.before.before.before.before.value in
     let p = c.before.before.before.weighed in
     let r = c.stopped2 in
-    let is = not_false a.s.ok c.before.before.before.before.before.before.if1.false in (
+    let is = not-false a.s.ok c.before.before.before.before.before.before.if1.false in (
       r.ensures.0,
       omega arith,
       omega arith,
@@ -65,7 +65,7 @@ returns-4 c =
     let p = c.before.before.before.before.before.before.before.before.weighed in
     let t = c.before.before.before.before.before.threshold in
     let r = c.before.before.place in
-    let is = not_false a.s.ok c.before.before.before.before.before.before.before.before.before.before.before.if1.false in (
+    let is = not-false a.s.ok c.before.before.before.before.before.before.before.before.before.before.before.if1.false in (
       r.ensures.0,
       omega arith,
       omega arith,
@@ -82,7 +82,7 @@ mul-t12 c =
     let v = c.before.before.before.before.before.before.before.value in
     let p = c.before.before.before.before.before.weighed in
     let t = c.before.before.threshold in
-    let is = not_false a.s.ok c.before.before.before.before.before.before.before.before.if1.false in
+    let is = not-false a.s.ok c.before.before.before.before.before.before.before.before.if1.false in
     omega (
       arith,
       octet_fits a.c a.s a.out.now is v.result v.ensures.0 (omega arith) p.result p.ensures (omega arith) t.result t.ensures.0
@@ -100,7 +100,7 @@ returns-5 c =
     let p = c.before.before.before.before.before.before.weighed in
     let t = c.before.before.before.threshold in
     let q = c.before.before.before.before.before.before.before.before.before.before.before.requires.1 in
-    let is = not_false a.s.ok c.before.before.before.before.before.before.before.before.before.if1.false in (
+    let is = not-false a.s.ok c.before.before.before.before.before.before.before.before.before.if1.false in (
       record { n_low = q.n_low; len_low = q.len_low; i_low = omega arith; i_from = omega (arith, q.i_from) },
       omega arith,
       omega arith,

@@ -1,7 +1,7 @@
 -- `sagebasket_check_utf8` meets its contract: 16 where the octets do not decode, else what is told of the code points read.
 -- Assumes nothing.
 use mathlib.Core.Path.{refl, sym, ◌∙◌}
-use borrow.Author.Tests.{not-true, not_false}
+use borrow.Author.Tests.{not-true, not-false}
 use Rattle.rules.specs.Editions.{edition_of}
 use Rattle.sagebasket.specs.Outside.{OfUtf8}
 use Rattle.sagebasket.proofs.Alike.{check_alike}
@@ -40,7 +40,7 @@ tell-check-requires c κs = search rules
 returns-2 : tie.Need-returns-2
 returns-2 c =
     let d = c.before.before.before.before.before.before.before.before.read-utf8 in
-    let ok = sym d.ensures.ok ∙ not_false _ c.before.before.before.before.before.if1.false in
+    let ok = sym d.ensures.ok ∙ not-false _ c.before.before.before.before.before.if1.false in
     OfUtf8.read ok (read_said _ (check_alike (edition_of _) _ _ _ _) c.before.before.before.before.before.before.before.before.before.before.before.args.name.now _ _ d.ensures ok c.tell-check.ensures)
 
 pub sagebasket-check-utf8-spec : {M : Type 1} → statement M
