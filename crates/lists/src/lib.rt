@@ -1,5 +1,7 @@
 // Slices of numbers: compared, searched and copied. Each call takes any slices and says all of its result.
 // Its meaning is defined in specs/: Tests (same, elem), Front (written).
+#![tactic(auto)]
+
 ghost use Rattle.std.specs.Prelude.{◌≡◌, min, length, take};
 ghost use Rattle.lists.specs.Tests.{same, elem};
 ghost use Rattle.lists.specs.Front.{written};
