@@ -1,6 +1,8 @@
 // The normal form of an application text, and the place where each of its characters began.
 // Each call takes any text and any lent buffer, and says all of its result; a refusal writes nothing. Its meaning is
 // defined in specs/: Normal, Calls.
+#![tactic(auto)]
+
 ghost use Rattle.std.specs.Prelude.{◌≡◌, ◌<◌, ◌≤◌, get_or, length};
 ghost use Rattle.lists.specs.Front.{Puts};
 ghost use Rattle.characters.specs.Compose.{composed};
