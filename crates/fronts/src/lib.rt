@@ -2,6 +2,8 @@
 // which brings 4. The call takes any edition, any text and any lent buffer and says all of its result; a refusal writes nothing. 25 is not
 // among its numbers: whether there is such an edition is asked by who refuses with it. Its meaning is defined in specs/Fronts,
 // over the rows 2 to 4 of `rules` (specs/Rules: front_rows).
+#![tactic(auto)]
+
 ghost use Rattle.rules.specs.Editions.{edition_with};
 ghost use Rattle.fronts.specs.Fronts.{Fronts};
 
