@@ -1,6 +1,8 @@
 // The ASCII form of a label, and of labels joined by periods, which names and hosts share. The call takes any label and any lent buffer and
 // says all of its result; a refusal writes nothing. Its meaning is defined in specs/Labels; what it says of the labels of a name stands in
 // specs/Ascii and proofs/OfNames. What the coder does is known by its stated answers alone.
+#![tactic(auto)]
+
 ghost use Rattle.std.specs.Prelude.{◌≡◌, false, ◌≤◌, length};
 ghost use Rattle.lists.specs.Tests.{any_of};
 ghost use Rattle.lists.specs.Front.{written};
