@@ -2,6 +2,8 @@
 // Each call takes any 32-bit number, any edition and any lent table, and says all of its result. Its meaning is defined in specs/:
 // Characters, Replace, Compose. A call `.._with` is lent the table of kanji, so that a program names that table once: `kanji_bits` gives it, and
 // says which it is.
+#![tactic(auto)]
+
 mod kanji;
 
 ghost use Rattle.std.specs.Prelude.{◌≡◌, ◌+◌, ◌<◌, ltb, get_or};
