@@ -1,6 +1,8 @@
 // A form by its labels: how many there are and where they end, and what rules 5 to 12 and 17 say of the labels of a name. Each call takes
 // any form, any edition where it asks by one, and says all of its result. 25 is not among its numbers: whether there is such an edition is
 // asked by who refuses with it. Its meaning is defined in `rules` (specs/Rules: by_labels), and where the labels end here in specs/Cuts.
+#![tactic(auto)]
+
 mod cuts;
 mod verdicts;
 
