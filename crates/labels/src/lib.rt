@@ -1,6 +1,8 @@
 // One label of a normal form: where it ends, what may stand in it, which kinds it holds, and what rules 7 to 10 and 17 say of it, for every
 // family of names. Each call takes any slice, any edition where it asks which character is Japanese, and says all of its result. Its meaning
 // is defined in `rules` (specs/Labels, Permits, Editions, Kinds, Rules), what a label holds here in specs/Held, and where a call is told whether the label is Japanese, in specs/Known.
+#![tactic(auto)]
+
 mod kinds;
 
 ghost use Rattle.std.specs.Prelude.{◌≡◌, not, ◌&&◌, ◌||◌, ◌+◌, ltb, drop};
