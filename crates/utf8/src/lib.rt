@@ -1,6 +1,8 @@
 // UTF-8 (RFC 3629): the code points of bytes. The call takes any bytes and any lent buffer, says all of its result, and writes nothing
 // where it refuses. Its meaning is defined in specs/: Utf8; what it answers and writes in Decodes. That it reads exactly the encodings
 // of scalar values is the theorem of proofs/Encoding.
+#![tactic(auto)]
+
 ghost use Rattle.std.specs.Prelude.{◌≡◌, ◌+◌, ◌^◌, ◌<◌, set};
 ghost use Rattle.lists.specs.Tests.{within};
 ghost use Rattle.utf8.specs.Utf8.{proper, decoded};
