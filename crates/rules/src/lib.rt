@@ -4,6 +4,8 @@
 // call that judges a name is a thin layer over `rules` (specs/Rules), and `may_become` over `hopeful` (specs/Hopeful). Which
 // kinds of Japanese characters a label holds stands in specs/Kinds, and where labels stand in a normal form in specs/Places.
 // It has no call of its own: only the types that the definitions and the calls share, and the number of the edition in force.
+#![tactic(auto)]
+
 
 // The edition in force (specs/Editions).
 pub const IN_FORCE: u32 = 4;
@@ -17,7 +19,7 @@ pub enum Class {
 }
 
 // Which kinds of Japanese characters a label holds.
-#[derive(Drop)]
+#[derive(Clone, Copy)]
 pub struct Kinds {
     pub hiragana: bool,
     pub katakana: bool,
