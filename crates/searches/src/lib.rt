@@ -2,6 +2,8 @@
 // and goes by the edition in force. It looks at the length, then reads from the left and stops at the first code point that brings 4. Its
 // meaning is defined in specs/Searches, over the rules; that its yes is the check's 0 is proofs/Checking, that what it did not read plays no
 // part proofs/Unread, and that no earlier code point brings 4 proofs/Earliest. The call `.._with` is lent the table of kanji; the call without names it itself.
+#![tactic(auto)]
+
 ghost use Rattle.std.specs.Prelude.{◌≡◌, true, eqb, length, drop};
 ghost use Rattle.lists.specs.Tests.{within};
 ghost use Rattle.normal.specs.Normal.{normal_form};
