@@ -110,7 +110,7 @@ module _ (P : Permits) (first second part : Bor (List ℕ)) (H : Hands P first s
   handed n = by_winner (won_by_lem (alone P a).number (alone P b).number) n H.shows
 
   -- where neither did: the empty part at the start of the first text
-  pub handed_none : winner P a b ≡ 0 → (part.ref_ptr ≡ first.ptr) × (part.now ≡ [])
+  pub handed_none : winner P a b ≡ 0 → (part.ref_ptr ≡ first.ref_ptr) × (part.now ≡ [])
   unfolding handed_length
   handed_none e = (rw e at H.begins, rw e at H.shows)
 

@@ -3,6 +3,8 @@
 // part is no copy: it is the beginning of one of the two slices that were lent. Their meaning is defined in specs/Wishes, over the rules; that
 // number and place are the check's is proofs/Winning, and that the part, normalised, is the leftmost label proofs/Leftmost. A call
 // `.._with` is lent the table of kanji; the call without names it itself.
+#![tactic(auto)]
+
 ghost use Rattle.std.specs.Prelude.{◌≡◌, ◌≤◌, length};
 ghost use Rattle.rules.specs.Editions.{today, today_with};
 ghost use Rattle.wishes.specs.Wishes.{alone, won_by, part_length, handed_length, wished, Begins, Hands};
