@@ -1,6 +1,8 @@
 // Whether a text may yet become a name of an edition, as a call: the labels of its normal form are asked, the last of them as unfinished. The
 // call takes the number of an edition, any number, and any text. Its meaning is defined in `rules` (specs/Hopeful). The call `.._with` is lent
 // the table of kanji; the call without names it itself.
+#![tactic(auto)]
+
 ghost use Rattle.std.specs.Prelude.{◌≡◌, ◌∷◌, [], ◌++◌};
 ghost use Rattle.rules.specs.Labels.{labels};
 ghost use Rattle.rules.specs.Editions.{edition_of, edition_with};
