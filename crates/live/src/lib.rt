@@ -3,6 +3,8 @@
 // Beside it stands whether that text may yet become a name. It keeps the text and no second set of rules: each call hands the text to
 // `names`, to `hopes`, or to `hosts` (src/host_looks). Its meaning is defined in specs/Live; that what it shows is what the nightly rules say is
 // proofs/Nightly, and that it says no exactly where no continuation is accepted, proofs/Hope.
+#![tactic(auto)]
+
 pub mod host_looks;
 
 ghost use Rattle.std.specs.Prelude.{◌≡◌};
