@@ -248,7 +248,7 @@ fn encodes(l: &[u32], low: &[u8]) -> bool
     if !ok {
         return false;
     }
-    check::same(&text[0..m], low)
+    &text[..m] == low
 }
 
 // The label that the octets `low`, in lower case, encode.

@@ -3,6 +3,8 @@
 // Each call takes any numbers and any buffer, and its contract decides the number that it answers, the length, and every entry
 // of the buffer; a call that refuses writes nothing. What the calls mean is defined in specs/: Punycode (the RFC's procedure, and which
 // labels are encoded) and Calls (the answers). That decoding undoes encoding is proved in proofs/Theorems.
+#![tactic(auto)]
+
 mod bias;
 mod coder;
 mod decoder;
@@ -69,7 +71,7 @@ pub fn encode(label: &[u32], out: &mut [u8]) -> Encoded
     if n > ROOM {
         return refused_label(LONG);
     }
-    bytes::copy(&text[0..n], out);
+    out[..n].copy_from_slice(&text[..n]);
     Encoded {
         number: 0,
         place: 0,
