@@ -1,4 +1,3 @@
 pub mod LineFields
-mod Taking
 pub mod OneTab
 pub mod Unique

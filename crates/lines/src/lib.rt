@@ -1,6 +1,8 @@
 // The lines of a batch: where a line ends, and its fields, an id and a name with one tab between them, by a line reader that holds
 // the lent line and the place reached. Each call takes any slices and says all of its result. Its meaning is defined in specs/:
 // Lines, Fields.
+#![tactic(auto)]
+
 ghost use Rattle.std.specs.Prelude.{◌≡◌, ℕ, ◌+◌, eqb, drop};
 ghost use Rattle.lists.specs.Tests.{index_of};
 ghost use Rattle.lines.specs.Lines.{lf};
@@ -15,7 +17,7 @@ pub struct LineReader<'a> {
 }
 
 // A field: from start up to end. Reading goes on at next: past the tab that ended it, or at the end where the line did.
-#[derive(Drop)]
+#[derive(Clone, Copy)]
 pub struct Stretch {
     pub start: usize,
     pub end: usize,
