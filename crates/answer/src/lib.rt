@@ -1,6 +1,8 @@
 // The answer to a line of a batch: id, number, place, class, ASCII form and kinds, tab-parted and ended by LF; the name is judged by the
 // edition in force. Each call takes any slices and says all of its result, and writes nothing where it refuses. Its meaning is defined in
 // specs/: Answer; what a call answers and writes in Answers. The usual line has a way of its own (src/usual), and the same answer.
+#![tactic(auto)]
+
 mod usual;
 
 ghost use Rattle.std.specs.Prelude.{◌≡◌, [], ◌∷◌, ◌+◌, ◌≤◌, ◌<◌, ◌%◌, min, length};
