@@ -33,7 +33,7 @@ fn put_label(kanji: &[u32], label: &[u32], out: &mut [u8], at: usize) -> usize
     let put = label_form(label, &mut scratch);
     let n = put.length;
     let octets: &[u8] = &scratch;
-    out[at..at + n].copy_from_slice(&octets[0..n]);
+    out[at..at + n].copy_from_slice(&octets[..n]);
     at + n
 }
 

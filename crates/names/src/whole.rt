@@ -116,7 +116,7 @@ fn any_name(kanji: &[u32], edition: u32, text: &[u32], out: &mut [u8]) -> AsciiF
     }
     let length = put.at;
     let octets: &[u8] = &ascii;
-    out[0..length].copy_from_slice(&octets[0..length]);
+    out[..length].copy_from_slice(&octets[..length]);
     let kinds = leftmost_kinds(kanji, edition, &buffer[0..n]);
     let class = ruled.class;
     AsciiForm {
