@@ -11,12 +11,12 @@ use lib.Seq.{take_all, drop-drop}
 use borrow.Author.Tests.{eqb-true}
 use Rattle.lists.specs.Tests.{all_of, any_of, index_of}
 use Rattle.lists.specs.Front.{written, Puts}
+use Rattle.lists.proofs.Fronts.{front}
 use Rattle.lists.proofs.Laws.{both, neither}
 use Rattle.lists.proofs.Pieces.{puts_length}
 use Rattle.rules.specs.Labels.{period, labels}
 use Rattle.rules.specs.Permits.{Permits, InStretch}
 use Rattle.rules.proofs.Cuts.{ended, first_from, by_end}
-use Rattle.fronts.proofs.Shown.{at_start}
 use Rattle.ascii.specs.Labels.{Forms}
 use Rattle.ascii.specs.Ascii.{ascii_label, ascii_form, uncoded, writable}
 use Rattle.ascii.specs.declared.LabelForm.{LabelForm}
@@ -34,29 +34,23 @@ module _ (P : Permits) (stretch : InStretch P) (l : List ℕ) (at : ℕ) (out : 
   pub scratch_fits : k.length ≤ 63
   scratch_fits = omega (arith, given.0, label_size P l w.fit w.coded)
 
-  piece : take (k.length - 0) (drop 0 last) ≡ ascii_label P l
-  piece = rw (given.0, given.1) (at_start (ascii_label P l) scratch)
-
-  pub piece_length : length (take (k.length - 0) (drop 0 last)) ≡ k.length
-  piece_length = ap length piece ∙ sym given.0
+  piece : take k.length last ≡ ascii_label P l
+  piece = rw (given.0, given.1) (front (ascii_label P l) scratch)
 
   pub place_fits : at + k.length ≤ length out
   place_fits = omega (arith, given.0, w.fits)
 
-  -- the part of the buffer from `at` on was lent to the copy, which left `copied` there; the part reaches to the buffer's end
-  pub label_put : {copied : List ℕ} {n : ℕ} → n ≡ length (take (k.length - 0) (drop 0 last))
-      → copied ≡ take n (take (k.length - 0) (drop 0 last)) ++ drop n (take (length out - at) (drop at out))
-      → Puts (ascii_label P l) out (take at out ++ (copied ++ drop (length out - at) (drop at out))) at (at + k.length)
-  label_put {copied} {n} m e =
+  -- the part of the buffer from `at` on, as long as the form, takes what the scratch begins with
+  pub label_put : {copied : List ℕ} → copied ≡ take k.length last
+      → Puts (ascii_label P l) out (take at out ++ (copied ++ drop (at + k.length - at) (drop at out))) at (at + k.length)
+  label_put {copied} e =
       let a = ascii_label P l in
-      let part : take (length out - at) (drop at out) ≡ drop at out = take_all (length out - at) (drop at out) (omega (arith, length-drop at out)) in
-      let none : drop (length out - at) (drop at out) ≡ [] = drop_of_length-le (drop at out) {i = length out - at} (omega (arith, length-drop at out)) in
-      let size : n ≡ length a = m ∙ ap length piece in
-      let left : copied ≡ a ++ drop (at + length a) out = e ∙ rw (piece, part, size, take_all (length a) a (omega arith), drop-drop (length a) at out) in
+      let size : at + k.length - at ≡ length a = omega (arith, given.0) in
+      let left : copied ≡ a = e ∙ piece in
       record {
         place = rw given.0;
         room = place_fits;
-        buffer = rw (none, append-nil copied, left, given.0) (sym (append_assoc (take at out) a (drop (at + length a) out)));
+        buffer = rw (size, left, drop-drop (length a) at out, given.0) (sym (append_assoc (take at out) a (drop (at + length a) out)));
       }
 
 -- ---- all labels

@@ -1,6 +1,8 @@
 // The calls on a nameserver's host name: judge and ASCII form, by the edition in force. Each takes any text and any lent buffer, says by
 // itself whether the text is fit, and writes nothing where it refuses. Its meaning is defined in `rules` (specs/Hosts) and, with 14 and 19, here in specs/Hosts.
 // What the coder does is known by its stated answers alone. A call `.._with` is lent the table of kanji; the call without names it itself.
+#![tactic(auto)]
+
 mod forms;
 mod judges;
 mod labelled;
