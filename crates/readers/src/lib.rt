@@ -1,6 +1,8 @@
 // The second reader of labels, as document 004 is written: one rule stands after a letter, digit or Japanese character, the
 // other after a hyphen, each handing the rest of the label to the other. Each call takes any label and says yes or no of it, by the edition in
 // force. Its meaning is defined in `rules` (specs/Reader), and that it agrees with the rules but for 17 is shown there (proofs/ReaderAgrees).
+#![tactic(auto)]
+
 ghost use Rattle.std.specs.Prelude.{◌≡◌, ◌||◌, ◌+◌, ◌≤◌, ◌<◌, length};
 ghost use Rattle.rules.specs.Reader.{skip, note, length_fits, ending, after_character, after_hyphen, reader};
 ghost use Rattle.rules.specs.Editions.{today, today_with};
