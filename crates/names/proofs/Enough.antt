@@ -98,12 +98,10 @@ module _ (P : Permits) (text : List ℕ) {lent form : List ℕ} {j : Ruled} (e :
     pub put_size : r.at ≤ length last
     put_size = omega (arith, place_is, ap length (put_form.put y).buffer, length-append (ascii_form P (normal_form text)) (drop r.at zeros))
 
-    piece : take (r.at - 0) (drop 0 last) ≡ ascii_form P (normal_form text)
-    piece =
-        let k : r.at - 0 ≡ length (ascii_form P (normal_form text)) = omega (arith, place_is) in
-        rw (k, (put_form.put y).buffer) (take_at (ascii_form P (normal_form text)) _ (length (ascii_form P (normal_form text))) refl)
+    piece : take r.at last ≡ ascii_form P (normal_form text)
+    piece = rw (place_is, (put_form.put y).buffer) (take_at (ascii_form P (normal_form text)) _ (length (ascii_form P (normal_form text))) refl)
 
-    pub piece_length : length (take (r.at - 0) (drop 0 last)) ≡ r.at
+    pub piece_length : length (take r.at last) ≡ r.at
     piece_length = ap length piece ∙ sym place_is
 
   module _ (before : List ℕ) (h : 192 ≤ length before) where
@@ -111,15 +109,12 @@ module _ (P : Permits) (text : List ℕ) {lent form : List ℕ} {j : Ruled} (e :
     stopped q n =
         ascii_uncoded P text before h (accepted_as P text e z).clear q (not-false (any_of (uncoded P) (labels (normal_form text))) (sym put_form.coded ∙ n))
 
-    pub finished : {after : List ℕ} {n : ℕ} {ks : Kinds} → r.coded ≡ true → n ≡ length (take (r.at - 0) (drop 0 last))
-        → after ≡ take n (take (r.at - 0) (drop 0 last)) ++ drop n before → ks ≡ (held_in P (get_or (labels (take (j.length - 0) (drop 0 form))) 0 [])).kinds
+    pub finished : {after : List ℕ} {ks : Kinds} → r.coded ≡ true
+        → after ≡ take r.at last ++ drop r.at before → ks ≡ (held_in P (get_or (labels (take (j.length - 0) (drop 0 form))) 0 [])).kinds
         → AsciiForms P text before after (record { number = 0; place = 0; class = j.class; kinds = ks; length = r.at })
     unfolding written
-    finished {after} {n} y m w f =
-        let k : n ≡ length (ascii_form P (normal_form text)) = m ∙ ap length (piece y) in
-        let all : take (length (ascii_form P (normal_form text))) (ascii_form P (normal_form text)) ≡ ascii_form P (normal_form text) =
-        take_all (length (ascii_form P (normal_form text))) (ascii_form P (normal_form text)) (omega arith) in
+    finished {after} y w f =
         let p = accepted_as P text e z in
         ascii_accepted P text before h p.clear (not-true (any_of (uncoded P) (labels (normal_form text))) (sym put_form.coded ∙ y)) p.class
         (f ∙ ap (λ (l : List ℕ). (held_in P (get_or (labels l) 0 [])).kinds) p.form ∙ leftmost_kinds P text p.clear) (place_is y)
-        (w ∙ rw (piece y, k, all))
+        (w ∙ rw (piece y, place_is y))

@@ -1,6 +1,8 @@
 // The calls on a name: judge, check, whole ASCII form, and is there such an edition. Each takes the number of an edition, any number, any
 // text and any lent buffer, says by itself whether they are fit, and writes nothing where it refuses. Its meaning is defined in `rules` (specs/Rules,
 // Editions, Kinds, Places) and here in specs/Calls. A call `.._with` is lent the table of kanji, so that a program names that table once; the call without names it itself.
+#![tactic(auto)]
+
 mod checks;
 mod editions;
 mod judges;

@@ -1,0 +1,10 @@
+-- `judge` meets its contract: it lends the bits of the kanji, with which the edition is itself.
+-- Assumes nothing.
+use mathlib.Core.Path.{◌≡◌}
+use Rattle.rules.specs.Permits.{Permits}
+use Rattle.names.specs.Calls.{judged}
+use Rattle.rules.proofs.Editions.{lending}
+use Rattle.names.proofs.judges.judge.Goals as goal
+
+pub returns : goal.returns
+returns c = lending (λ (P : Permits). c.judge_with.result ≡ judged P c.args.text.now) _ c.kanji_bits-kanji.ensures c.judge_with.ensures
