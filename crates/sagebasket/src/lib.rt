@@ -3,6 +3,8 @@
 // meaning is defined in specs/Outside; that any steps and looks show what the nightly rules say of all that was typed is proofs/Nightly.
 // Only numbers, slices of numbers and arrays of a fixed length behind a reference cross: on these the C rules of x86-64, Arm and wasm32
 // agree, and a buffer that is too short (1) cannot be lent.
+#![tactic(auto)]
+
 pub mod coding;
 pub mod naming;
 mod numbers;
