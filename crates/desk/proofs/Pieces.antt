@@ -20,8 +20,6 @@ use Rattle.answer.specs.Answer.{answer_to, bad_answer}
 use Rattle.answer.specs.Answers.{most}
 use Rattle.batch.specs.Stream.{after, wrote, ended, used}
 use Rattle.batch.specs.Feed.{Feeds, Finishes}
-use Rattle.desk.specs.Handed.{EndTold}
-use Rattle.desk.specs.declared.Carried.{Carried}
 use Rattle.answer.proofs.Parts.{head_part, tail_part}
 use Rattle.batch.proofs.Laws.{used_within, goes_on, again, wrote_again, wrote_few}
 use Rattle.answer.proofs.Longest.{bad_length, longest_today}
@@ -103,7 +101,3 @@ pub at_end : {table before after' : List ℕ} {l : Line} {r : Finished} → tabl
 at_end {before = before} {after'} {l} {r} t h f =
     let g = lending (λ (P : Permits). Finishes (answer_to P) bad_answer l before after' r) 4 t f in
     puts_count g.text ∙ rw (le-leb most (length before) h)
-
--- what is said of the line that was told is said of the one handed back
-pub of_its_line : {l : Line} {r : Carried} → EndTold l r → EndTold r.line r
-of_its_line h = record { line = refl; handed = h.handed ∙ ap (λ (m : Line). length (ended (answer_to today) bad_answer m)) (sym h.line) }

@@ -1,13 +1,16 @@
 // The program: reads lines from standard input and writes their answers to standard output, 64 KiB at a time. It holds the table
 // of kanji, two buffers and one line, so its memory does not grow with the input. An error is told on standard error and stops it.
 // Its contracts say how many bytes of answers it counts as handed to standard output, by the rules in force; which bytes, those of `batch` say.
-ghost use Rattle.std.specs.Prelude.{◌≡◌, true, false, ◌≤◌, length};
+#![tactic(auto)]
+
+ghost use Rattle.std.specs.Prelude.{◌≡◌, true, false, ◌≤◌, length, IfSome};
 ghost use Rattle.characters.specs.KanjiBits.{kanji_bits};
 ghost use Rattle.answer.specs.Answers.{most};
 ghost use Rattle.desk.specs.Handed.{FedAll, EndTold};
 
 use batch::stream::Line;
-use libc::{STDIN_FILENO, STDOUT_FILENO};
+use std::io::Read;
+use std::process::ExitCode;
 
 // How many bytes were handed to standard output, and whether all were written.
 #[derive(Drop)]
@@ -24,29 +27,41 @@ struct Carried {
     pub line: Line,
 }
 
-// One read: how many bytes, 0 at the end of the input, less than 0 where it failed.
-fn read(buf: &mut [u8]) -> isize {
-    let got = libc::read(STDIN_FILENO, buf);
-    if got < 0 {
-        os::fail(b"standard input");
+// One read: how many bytes, 0 at the end of the input, none where it failed.
+fn read(rt: &impl Eprint, input: &mut impl Read, buf: &mut [u8]) -> Option<usize>
+    ensures { IfSome result (λ n. n ≤ length buf.new) }
+{
+    match input.read(buf) {
+        Ok(n) => Some(n),
+        Err(e) => {
+            let _ = eprintln!(rt; "standard input: {e}");
+            None
+        }
     }
-    got
 }
 
 // Hands the answers to standard output.
-fn write(answers: &[u8]) -> Handed
+fn write(rt: &(impl Print + Eprint), answers: &[u8]) -> Handed
     ensures { result.count ≡ length answers.now }
 {
     let count = answers.len();
-    if io::write_all(STDOUT_FILENO, answers) {
-        return Handed { ok: true, count };
+    match rt.write_all(answers) {
+        Ok(()) => Handed { ok: true, count },
+        Err(e) => {
+            let _ = eprintln!(rt; "standard output: {e}");
+            Handed { ok: false, count }
+        }
     }
-    os::fail(b"standard output");
-    Handed { ok: false, count }
 }
 
 // Feeds a piece to its end, and hands out what that gives.
-fn feed_all(kanji: &[u32], line: Line, piece: &[u8], out: &mut [u8]) -> Carried
+fn feed_all(
+    rt: &(impl Print + Eprint),
+    kanji: &[u32],
+    line: Line,
+    piece: &[u8],
+    out: &mut [u8],
+) -> Carried
     requires { (kanji.now ≡ kanji_bits) × (length piece.now ≤ 65536) × (most ≤ length out.old) }
     ensures { result.ok ≡ true → FedAll line piece.now result }
 {
@@ -58,7 +73,7 @@ fn feed_all(kanji: &[u32], line: Line, piece: &[u8], out: &mut [u8]) -> Carried
         let n = f.wrote;
         let u = f.used;
         let next = f.line;
-        let w = write(&out[0..n]);
+        let w = write(rt, &out[0..n]);
         if !w.ok {
             return Carried {
                 ok: false,
@@ -78,13 +93,13 @@ fn feed_all(kanji: &[u32], line: Line, piece: &[u8], out: &mut [u8]) -> Carried
 }
 
 // Tells the end of the input, and hands out what that gives.
-fn end(kanji: &[u32], line: Line, out: &mut [u8]) -> Carried
+fn end(rt: &(impl Print + Eprint), kanji: &[u32], line: Line, out: &mut [u8]) -> Carried
     requires { (kanji.now ≡ kanji_bits) × (most ≤ length out.old) }
     ensures { EndTold line result }
 {
     let f = batch::stream::finish_with(kanji, line, out);
     let last = f.wrote;
-    let w = write(&out[0..last]);
+    let w = write(rt, &out[0..last]);
     Carried {
         ok: w.ok,
         count: w.count,
@@ -105,35 +120,37 @@ fn stopped(line: Line) -> Carried
 
 // Feeds all of the input, and then tells its end: what comes back is the line that was carried then, and how many bytes were handed out for
 // it. The count of turns only shows that the loop ends: no input takes as many.
-fn run(kanji: &[u32], buf: &mut [u8], out: &mut [u8]) -> Carried
+fn run(rt: &(impl Input + Print + Eprint), kanji: &[u32], buf: &mut [u8], out: &mut [u8]) -> Carried
     requires { (kanji.now ≡ kanji_bits) × (length buf.old ≤ 65536) × (most ≤ length out.old) }
     ensures { result.ok ≡ true → EndTold result.line result }
 {
+    let mut input = rt.reader();
     let mut line = batch::stream::new();
-    let mut turns = u64::MAX;
-    while turns > 0 {
-        let got = read(buf);
-        if got < 0 {
+    for _ in 0..u64::MAX {
+        let Some(n) = read(rt, &mut input, buf) else {
             return stopped(line);
-        }
-        let n = io::count(got, buf);
+        };
         if n == 0 {
-            return end(kanji, line, out);
+            return end(rt, kanji, line, out);
         }
-        let c = feed_all(kanji, line, &buf[0..n], out);
+        let c = feed_all(rt, kanji, line, &buf[0..n], out);
         if !c.ok {
             return c;
         }
-        let next = c.line;
-        line = next;
-        turns -= 1;
+        line = c.line;
     }
     stopped(line)
 }
 
-fn main() {
+// The exit status is 1 where a read or a write failed.
+fn main(rt: HostRuntime) -> ExitCode {
     let kanji = characters::kanji_bits();
-    let mut buf = io::large_buffer();
-    let mut out = io::large_buffer();
-    run(&kanji, &mut buf, &mut out);
+    let mut buf = [0u8; 65536];
+    let mut out = [0u8; 65536];
+    let told = run(&rt, &kanji, &mut buf, &mut out);
+    if told.ok {
+        ExitCode::SUCCESS
+    } else {
+        ExitCode::FAILURE
+    }
 }
