@@ -27,7 +27,7 @@ pub const LONGEST_LINE: usize = 1024;
 pub const MOST: usize = 256;
 
 // Whether there was room for the longest answer, and how many bytes were written.
-#[derive(Drop)]
+#[derive(Clone, Copy)]
 pub struct Wrote {
     pub done: bool,
     pub length: usize,
@@ -249,7 +249,7 @@ pub fn answer_with(kanji: &[u32], line: &[u8], out: &mut [u8]) -> Wrote
 }
 
 // Whether a line was answered, where its LF is, and how many bytes were written.
-#[derive(Drop)]
+#[derive(Clone, Copy)]
 pub struct Next {
     pub done: bool,
     pub end: usize,

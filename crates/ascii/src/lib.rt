@@ -19,7 +19,7 @@ const OVER_63: u8 = 14;
 const MOST: usize = 63;
 
 // What the call for a label's ASCII form answers.
-#[derive(Drop)]
+#[derive(Clone, Copy)]
 pub struct LabelForm {
     pub number: u8,
     pub place: usize,

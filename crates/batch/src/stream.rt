@@ -11,14 +11,14 @@ use answer::{LONGEST_LINE, MOST, Wrote, answer_with, next_with};
 use lines::line_end;
 
 // The bytes of a line whose end has not come, and how many; over 1,024 says that there were more.
-#[derive(Drop)]
+#[derive(Clone, Copy)]
 pub struct Line {
     pub held: [u8; 1024],
     pub n: usize,
 }
 
 // How much of a piece is used, how many bytes are written for it, and the line that is carried on.
-#[derive(Drop)]
+#[derive(Clone, Copy)]
 pub struct Fed {
     pub used: usize,
     pub wrote: usize,
@@ -26,7 +26,7 @@ pub struct Fed {
 }
 
 // Whether there was room, and how many bytes are written.
-#[derive(Drop)]
+#[derive(Clone, Copy)]
 pub struct Finished {
     pub done: bool,
     pub wrote: usize,

@@ -90,7 +90,7 @@ fn is_kanji(kanji: &[u32], c: u32) -> bool
 }
 
 // The kind of a Japanese character, and none for any other code point.
-#[derive(Drop)]
+#[derive(Clone, Copy)]
 pub enum Kind {
     Hiragana,
     Katakana,
@@ -139,7 +139,7 @@ pub fn is_japanese(kind: Kind) -> bool
 }
 
 // The replacement class of a code point.
-#[derive(Drop)]
+#[derive(Clone, Copy)]
 pub enum Replacement {
     Letter,
     Digit,

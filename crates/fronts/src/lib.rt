@@ -13,7 +13,7 @@ const ACCEPTED: u8 = 0;
 
 // Number, place and length are those of the normal form call. Where the form is written, `unfit` says whether it holds an unfit character,
 // and `at` is the place of the first such one in the text.
-#[derive(Drop)]
+#[derive(Clone, Copy)]
 pub struct Fronted {
     pub number: u8,
     pub place: usize,

@@ -38,7 +38,7 @@ pub(crate) const MOST: usize = 253;
 pub(crate) const ROOM: usize = 255;
 
 // What the judge answers.
-#[derive(Drop)]
+#[derive(Clone, Copy)]
 pub struct HostJudged {
     pub number: u8,
     pub place: usize,
@@ -47,7 +47,7 @@ pub struct HostJudged {
 }
 
 // What the call for the ASCII form answers.
-#[derive(Drop)]
+#[derive(Clone, Copy)]
 pub struct HostForm {
     pub number: u8,
     pub place: usize,

@@ -28,7 +28,7 @@ pub const EVERY_PAIR: bool = false;
 
 // How many labels a form has, 4 for more than three; and where the first and the second of them end, the form's end where there is no
 // second.
-#[derive(Drop)]
+#[derive(Clone, Copy)]
 pub struct Ends {
     pub count: usize,
     pub first: usize,

@@ -39,7 +39,7 @@ const HYPHEN: u32 = 0x2D;
 const MIDDLE_DOT: u32 = 0x30FB;
 
 // What a label holds: whether it may hold all of its characters, and, where it may, which kinds of Japanese ones are found.
-#[derive(Drop)]
+#[derive(Clone, Copy)]
 pub struct Held {
     pub fit: bool,
     pub kinds: Kinds,

@@ -10,7 +10,7 @@ ghost use Rattle.lines.specs.Fields.{id_byte, good_id, field_at, reader_at, take
 
 pub const TAB: u8 = 0x09;
 
-#[derive(Drop)]
+#[derive(Clone, Copy)]
 pub struct LineReader<'a> {
     pub line: &'a [u8],
     pub at: usize,
@@ -25,21 +25,21 @@ pub struct Stretch {
 }
 
 // What reading a field answers: the field, and the reader moved past it.
-#[derive(Drop)]
+#[derive(Clone, Copy)]
 pub struct Taken<'a> {
     pub field: Stretch,
     pub rest: LineReader<'a>,
 }
 
 // The first field of a line, and the one after it.
-#[derive(Drop)]
+#[derive(Clone, Copy)]
 pub struct TwoFields {
     pub id: Stretch,
     pub name: Stretch,
 }
 
 // Of a line with exactly one tab, where it is: the id stands before it, the name past it.
-#[derive(Drop)]
+#[derive(Clone, Copy)]
 pub enum Parts {
     Two(usize),
     Other,

@@ -7,7 +7,7 @@ ghost use Rattle.lists.specs.Tests.{same, elem};
 ghost use Rattle.lists.specs.Front.{written};
 
 // What a table of refusals answers (specs/Rows): a number, 0 where nothing is refused, and its place.
-#[derive(Drop)]
+#[derive(Clone, Copy)]
 pub struct Answer {
     pub number: u8,
     pub place: usize,

@@ -12,7 +12,7 @@ ghost use Rattle.rules.specs.Editions.{edition_of, edition_with};
 ghost use Rattle.live.specs.Live.{fresh, stepped, no_text, too_long, looked, hoped};
 
 // The edition by which it is judged, any number; the code points typed, and how many: 257 stands for more than 256, however many.
-#[derive(Drop)]
+#[derive(Clone, Copy)]
 pub struct Live {
     pub edition: u32,
     pub text: [u32; 256],

@@ -28,7 +28,7 @@ pub const OVER_63: u8 = 14;
 pub const NO_EDITION: u8 = 25;
 
 // What the judge answers; the label places are those of the normal form with 0, and none otherwise.
-#[derive(Drop)]
+#[derive(Clone, Copy)]
 pub struct Judged {
     pub number: u8,
     pub place: usize,
@@ -39,7 +39,7 @@ pub struct Judged {
 }
 
 // What the check answers; the label places likewise.
-#[derive(Drop)]
+#[derive(Clone, Copy)]
 pub struct Checked {
     pub number: u8,
     pub place: usize,
@@ -49,7 +49,7 @@ pub struct Checked {
 }
 
 // What the call for the whole ASCII form answers; the kinds are those of the leftmost label with 0, and none otherwise.
-#[derive(Drop)]
+#[derive(Clone, Copy)]
 pub struct AsciiForm {
     pub number: u8,
     pub place: usize,

@@ -21,7 +21,7 @@ pub const TOO_LONG: u8 = 3;
 // The longest text, and the room that a normal form asks for.
 pub const MOST: usize = 256;
 
-#[derive(Drop)]
+#[derive(Clone, Copy)]
 pub struct Normal {
     pub number: u8,
     pub place: usize,

@@ -26,7 +26,7 @@ const LONG: u8 = 14;
 const NOT_ENCODED: u8 = 15;
 
 // What the coder answers: the number, the place, which is always 0, and how many octets are written.
-#[derive(Drop)]
+#[derive(Clone, Copy)]
 pub struct Encoded {
     pub number: u8,
     pub place: usize,
@@ -34,7 +34,7 @@ pub struct Encoded {
 }
 
 // What the decoder answers: the same, of code points.
-#[derive(Drop)]
+#[derive(Clone, Copy)]
 pub struct Decoded {
     pub number: u8,
     pub place: usize,

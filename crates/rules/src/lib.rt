@@ -11,7 +11,7 @@
 pub const IN_FORCE: u32 = 4;
 
 // General-use or prefecture with number 0, and none otherwise.
-#[derive(Drop)]
+#[derive(Clone, Copy)]
 pub enum Class {
     None,
     General,
@@ -28,7 +28,7 @@ pub struct Kinds {
 }
 
 // Where the labels of a normal form stand: how many there are, and start and length of each of the first three, 0 where there is none.
-#[derive(Drop)]
+#[derive(Clone, Copy)]
 pub struct LabelPlaces {
     pub count: usize,
     pub starts: [usize; 3],
@@ -36,7 +36,7 @@ pub struct LabelPlaces {
 }
 
 // What the rules say of a text.
-#[derive(Drop)]
+#[derive(Clone, Copy)]
 pub struct Verdict {
     pub number: u8,
     pub place: usize,
@@ -45,7 +45,7 @@ pub struct Verdict {
 
 // What the second reader has seen of a label: how many characters, and whether one is Japanese, the middle dot, a Japanese
 // character other than the three exceptions.
-#[derive(Drop)]
+#[derive(Clone, Copy)]
 pub struct Seen {
     pub count: usize,
     pub ja: bool,

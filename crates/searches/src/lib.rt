@@ -22,7 +22,7 @@ use rules::IN_FORCE;
 const ACCEPTED: u8 = 0;
 
 // Whether the text is acceptable, and how many code points were read.
-#[derive(Drop)]
+#[derive(Clone, Copy)]
 pub struct Searched {
     pub yes: bool,
     pub read: usize,

@@ -9,7 +9,7 @@ ghost use Rattle.utf8.specs.Utf8.{proper, decoded};
 ghost use Rattle.utf8.specs.Decodes.{decoded_as, Decodes, DecodesUpToFault, Leads};
 
 // Whether all bytes are well-formed, and how many code points were counted.
-#[derive(Drop)]
+#[derive(Clone, Copy)]
 pub struct Decoded {
     pub ok: bool,
     pub count: usize,

@@ -19,7 +19,7 @@ const ACCEPTED: u8 = 0;
 const PERIOD: u32 = 0x2E;
 
 // Which wish won: 1 or 2, or 0 for neither. Number and place of the check of each.
-#[derive(Drop)]
+#[derive(Clone, Copy)]
 pub struct Wished {
     pub won: u8,
     pub first: Answer,
