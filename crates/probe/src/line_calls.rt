@@ -1,4 +1,4 @@
-// The calls of `unicode`, `lines` and `answer`.
+// The calls of `utf8`, `lines` and `answer`.
 ghost use Rattle.std.specs.Prelude.{◌≤◌};
 
 use crate::{lent, printed};
