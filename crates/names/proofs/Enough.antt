@@ -8,7 +8,7 @@ use mathlib.Core.Logic.{⊎_elim}
 use Prim.Native.Nat.{ℕ, ◌-◌, ◌≤◌}
 use native.Mathlib.Omega.{arith}
 use lib.ListN.{length, take, drop, get_or, length-append}
-use lib.Seq.{take_at, take_all}
+use lib.Seq.{take_at}
 use borrow.Author.Tests.{not-true, not-false}
 use Rattle.lists.specs.Tests.{all_of, any_of, same}
 use Rattle.lists.specs.Front.{written}

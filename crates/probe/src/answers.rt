@@ -7,39 +7,39 @@ use crate::{
 };
 
 // N: the normal form.
-fn normal_form(text: &[u32], room: usize, out: &mut [u8], from: usize) -> usize
+fn normal_form(rt: &impl Print, text: &[u32], room: usize, out: &mut [u8], from: usize) -> usize
     requires { room ≤ 300 }
 {
     let mut space = [0u32; 300];
     let buffer = &mut space[0..room];
     lent::fill_codes(buffer);
     let r = normal::normal_form(text, buffer);
-    let o = printed::put_unclassed(out, from, r.number, r.place, r.length);
-    lent::put_codes(out, o, buffer)
+    let o = printed::put_unclassed(rt, out, from, r.number, r.place, r.length);
+    lent::put_codes(rt, out, o, buffer)
 }
 
 // E: the coder.
-fn encode(label: &[u32], room: usize, out: &mut [u8], from: usize) -> usize
+fn encode(rt: &impl Print, label: &[u32], room: usize, out: &mut [u8], from: usize) -> usize
     requires { room ≤ 300 }
 {
     let mut space = [0u8; 300];
     let buffer = &mut space[0..room];
     lent::fill_octets(buffer);
     let r = punycode::encode(label, buffer);
-    let o = printed::put_unclassed(out, from, r.number, r.place, r.length);
-    lent::put_octets(out, o, buffer)
+    let o = printed::put_unclassed(rt, out, from, r.number, r.place, r.length);
+    lent::put_octets(rt, out, o, buffer)
 }
 
 // D: the decoder.
-fn decode(octets: &[u8], room: usize, out: &mut [u8], from: usize) -> usize
+fn decode(rt: &impl Print, octets: &[u8], room: usize, out: &mut [u8], from: usize) -> usize
     requires { room ≤ 300 }
 {
     let mut space = [0u32; 300];
     let buffer = &mut space[0..room];
     lent::fill_codes(buffer);
     let r = punycode::decode(octets, buffer);
-    let o = printed::put_unclassed(out, from, r.number, r.place, r.length);
-    lent::put_codes(out, o, buffer)
+    let o = printed::put_unclassed(rt, out, from, r.number, r.place, r.length);
+    lent::put_codes(rt, out, o, buffer)
 }
 
 // Puts the numbers into `octets`, and says whether all of them are octets.
@@ -60,6 +60,7 @@ fn narrowed(numbers: &[u32], octets: &mut [u8]) -> bool
 
 // A call on octets.
 fn on_octets(
+    rt: &impl Print,
     kanji: &[u32],
     edition: u32,
     call: u8,
@@ -73,19 +74,19 @@ fn on_octets(
 {
     let mut space = [0u8; 2000];
     if !narrowed(numbers, &mut space) {
-        return printed::put_byte(out, o, b'?');
+        return printed::put_byte(rt, out, o, b'?');
     }
     let n = numbers.len();
     let octets: &[u8] = &space[0..n];
     match call {
-        b'D' => decode(octets, room, out, o),
-        b'F' => line_calls::fields(octets, room, out, o),
-        b'U' => line_calls::decode_utf8(octets, room, out, o),
-        b'W' => line_calls::answer(kanji, octets, room, out, o),
-        b'Y' => outside::on_octets(edition, room, octets, out, o),
+        b'D' => decode(rt, octets, room, out, o),
+        b'F' => line_calls::fields(rt, octets, room, out, o),
+        b'U' => line_calls::decode_utf8(rt, octets, room, out, o),
+        b'W' => line_calls::answer(rt, kanji, octets, room, out, o),
+        b'Y' => outside::on_octets(rt, edition, room, octets, out, o),
         _ => {
             let mut reply = [0u8; 300];
-            streams::whole_batch(kanji, octets, &mut reply, out, o)
+            streams::whole_batch(rt, kanji, octets, &mut reply, out, o)
         }
     }
 }
@@ -97,6 +98,7 @@ fn is_own(call: u8) -> bool {
 
 // A call on a name, by an edition. It is lent the table of kanji, or names its own.
 fn on_name(
+    rt: &impl Print,
     kanji: &[u32],
     edition: u32,
     call: u8,
@@ -109,17 +111,18 @@ fn on_name(
 {
     let own = is_own(call);
     match call {
-        b'A' | b'a' => named::to_ascii(kanji, edition, own, text, room, out, o),
-        b'C' | b'c' => named::check(kanji, edition, own, text, room, out, o),
-        b'J' | b'j' => named::judge(kanji, edition, own, text, out, o),
-        b'L' | b'l' => streams::live_check(kanji, edition, own, text, out, o),
-        b'Z' | b'z' => named::acceptable(kanji, own, text, out, o),
-        _ => named::reads(kanji, own, text, out, o),
+        b'A' | b'a' => named::to_ascii(rt, kanji, edition, own, text, room, out, o),
+        b'C' | b'c' => named::check(rt, kanji, edition, own, text, room, out, o),
+        b'J' | b'j' => named::judge(rt, kanji, edition, own, text, out, o),
+        b'L' | b'l' => streams::live_check(rt, kanji, edition, own, text, out, o),
+        b'Z' | b'z' => named::acceptable(rt, kanji, own, text, out, o),
+        _ => named::reads(rt, kanji, own, text, out, o),
     }
 }
 
 // A call on a host, likewise; of the edition only the live check is told.
 fn on_host(
+    rt: &impl Print,
     kanji: &[u32],
     edition: u32,
     call: u8,
@@ -132,9 +135,9 @@ fn on_host(
 {
     let own = is_own(call);
     match call {
-        b'H' | b'h' => hosted::to_ascii(kanji, own, text, room, out, o),
-        b'G' | b'g' => hosted::judge(kanji, own, text, out, o),
-        _ => hosted::live_check(kanji, edition, own, text, out, o),
+        b'H' | b'h' => hosted::to_ascii(rt, kanji, own, text, room, out, o),
+        b'G' | b'g' => hosted::judge(rt, kanji, own, text, out, o),
+        _ => hosted::live_check(rt, kanji, edition, own, text, out, o),
     }
 }
 
@@ -150,6 +153,7 @@ fn takes_edition(call: u8) -> bool {
 
 // The call of a case on its numbers.
 fn call(
+    rt: &impl Print,
     kanji: &[u32],
     edition: u32,
     call: u8,
@@ -163,44 +167,53 @@ fn call(
 {
     match call {
         b'A' | b'C' | b'J' | b'L' | b'S' | b'Z' => {
-            on_name(kanji, edition, call, numbers, room, out, o)
+            on_name(rt, kanji, edition, call, numbers, room, out, o)
         }
         b'a' | b'c' | b'j' | b'l' | b's' | b'z' => {
-            on_name(kanji, edition, call, numbers, room, out, o)
+            on_name(rt, kanji, edition, call, numbers, room, out, o)
         }
-        b'G' | b'H' | b'V' => on_host(kanji, edition, call, numbers, room, out, o),
-        b'g' | b'h' | b'v' => on_host(kanji, edition, call, numbers, room, out, o),
-        b'B' | b'D' | b'F' | b'U' | b'W' => on_octets(kanji, edition, call, numbers, room, out, o),
-        b'Y' => on_octets(kanji, edition, call, numbers, room, out, o),
-        b'E' => encode(numbers, room, out, o),
-        b'I' => printed::put_flag(out, o, names::is_edition(edition)),
-        b'K' => kinds::kinds(kanji, edition, numbers, out, o),
-        b'M' => streams::hope(kanji, edition, numbers, out, o),
-        b'N' => normal_form(numbers, room, out, o),
-        b'O' => outside::on_points(edition, room, numbers, out, o),
-        b'P' => slices::places(numbers, room, out, o),
-        b'Q' => label::one_label(kanji, edition, numbers, room, out, o),
-        b'R' => hosted::front(kanji, edition, numbers, room, out, o),
-        b'T' => slices::two_lists(numbers, room, out, o),
-        b'X' => hosted::label_form(numbers, room, out, o),
-        b'o' => wishing::told(numbers, room, out, o),
-        b'w' => wishing::wishes(kanji, numbers, room, out, o),
-        _ => printed::put_byte(out, o, b'?'),
+        b'G' | b'H' | b'V' => on_host(rt, kanji, edition, call, numbers, room, out, o),
+        b'g' | b'h' | b'v' => on_host(rt, kanji, edition, call, numbers, room, out, o),
+        b'B' | b'D' | b'F' | b'U' | b'W' => on_octets(
+            rt, kanji, edition, call, numbers, room, out, o,
+        ),
+        b'Y' => on_octets(rt, kanji, edition, call, numbers, room, out, o),
+        b'E' => encode(rt, numbers, room, out, o),
+        b'I' => printed::put_flag(rt, out, o, names::is_edition(edition)),
+        b'K' => kinds::kinds(rt, kanji, edition, numbers, out, o),
+        b'M' => streams::hope(rt, kanji, edition, numbers, out, o),
+        b'N' => normal_form(rt, numbers, room, out, o),
+        b'O' => outside::on_points(rt, edition, room, numbers, out, o),
+        b'P' => slices::places(rt, numbers, room, out, o),
+        b'Q' => label::one_label(rt, kanji, edition, numbers, room, out, o),
+        b'R' => hosted::front(rt, kanji, edition, numbers, room, out, o),
+        b'T' => slices::two_lists(rt, numbers, room, out, o),
+        b'X' => hosted::label_form(rt, numbers, room, out, o),
+        b'o' => wishing::told(rt, numbers, room, out, o),
+        b'w' => wishing::wishes(rt, kanji, numbers, room, out, o),
+        _ => printed::put_byte(rt, out, o, b'?'),
     }
 }
 
 // The answer to a line. No line of a case has 2,000 numbers.
-pub(crate) fn answer(kanji: &[u32], line: &[u8], out: &mut [u8], from: usize) -> usize
+pub(crate) fn answer(
+    rt: &impl Print,
+    kanji: &[u32],
+    line: &[u8],
+    out: &mut [u8],
+    from: usize,
+) -> usize
     ensures { result ≤ length out.old }
 {
     let mut numbers = [0u32; 2000];
     let case = cases::read(line, &mut numbers);
     let n = case.count;
     if case.written && !takes_edition(case.call) {
-        let o = printed::put_byte(out, from, b'?');
-        return printed::put_byte(out, o, b'\n');
+        let o = printed::put_byte(rt, out, from, b'?');
+        return printed::put_byte(rt, out, o, b'\n');
     }
     let o = call(
+        rt,
         kanji,
         case.edition,
         case.call,
@@ -209,5 +222,5 @@ pub(crate) fn answer(kanji: &[u32], line: &[u8], out: &mut [u8], from: usize) ->
         out,
         from,
     );
-    printed::put_byte(out, o, b'\n')
+    printed::put_byte(rt, out, o, b'\n')
 }

@@ -12,6 +12,7 @@ fn in_ascii(kanji: &[u32], own: bool, text: &[u32], buffer: &mut [u8]) -> hosts:
 
 // H, h: the ASCII form of a host.
 pub(crate) fn to_ascii(
+    rt: &impl Print,
     kanji: &[u32],
     own: bool,
     text: &[u32],
@@ -25,27 +26,35 @@ pub(crate) fn to_ascii(
     let buffer = &mut space[0..room];
     lent::fill_octets(buffer);
     let r = in_ascii(kanji, own, text, buffer);
-    let o = printed::put_unclassed(out, from, r.number, r.place, r.length);
-    lent::put_octets(out, o, buffer)
+    let o = printed::put_unclassed(rt, out, from, r.number, r.place, r.length);
+    lent::put_octets(rt, out, o, buffer)
 }
 
 // What the judge says of a text, or a look at the live check.
-fn put_judged(out: &mut [u8], from: usize, j: hosts::HostJudged) -> usize {
+fn put_judged(rt: &impl Print, out: &mut [u8], from: usize, j: hosts::HostJudged) -> usize {
     let form = j.form;
-    let o = printed::put_unclassed(out, from, j.number, j.place, j.length);
-    streams::put_shown(out, o, &form)
+    let o = printed::put_unclassed(rt, out, from, j.number, j.place, j.length);
+    streams::put_shown(rt, out, o, &form)
 }
 
 // G, g: the judge.
-pub(crate) fn judge(kanji: &[u32], own: bool, text: &[u32], out: &mut [u8], o: usize) -> usize {
+pub(crate) fn judge(
+    rt: &impl Print,
+    kanji: &[u32],
+    own: bool,
+    text: &[u32],
+    out: &mut [u8],
+    o: usize,
+) -> usize {
     if own {
-        return put_judged(out, o, hosts::judge(text));
+        return put_judged(rt, out, o, hosts::judge(text));
     }
-    put_judged(out, o, hosts::judge_with(kanji, text))
+    put_judged(rt, out, o, hosts::judge_with(kanji, text))
 }
 
 // V, v: the live check, looked at as a host after the last code point, whichever edition it was given.
 pub(crate) fn live_check(
+    rt: &impl Print,
     kanji: &[u32],
     edition: u32,
     own: bool,
@@ -55,25 +64,32 @@ pub(crate) fn live_check(
 ) -> usize {
     let state = streams::typed(edition, text);
     if own {
-        return put_judged(out, o, state.look_host());
+        return put_judged(rt, out, o, state.look_host());
     }
-    put_judged(out, o, state.look_host_with(kanji))
+    put_judged(rt, out, o, state.look_host_with(kanji))
 }
 
 // X: the ASCII form of a label.
-pub(crate) fn label_form(label: &[u32], room: usize, out: &mut [u8], from: usize) -> usize
+pub(crate) fn label_form(
+    rt: &impl Print,
+    label: &[u32],
+    room: usize,
+    out: &mut [u8],
+    from: usize,
+) -> usize
     requires { room ≤ 300 }
 {
     let mut space = [0u8; 300];
     let buffer = &mut space[0..room];
     lent::fill_octets(buffer);
     let r = ascii::label_form(label, buffer);
-    let o = printed::put_unclassed(out, from, r.number, r.place, r.length);
-    lent::put_octets(out, o, buffer)
+    let o = printed::put_unclassed(rt, out, from, r.number, r.place, r.length);
+    lent::put_octets(rt, out, o, buffer)
 }
 
 // R: the normal form of a text, with a flag for an unfit character in it and the place of the first.
 pub(crate) fn front(
+    rt: &impl Print,
     kanji: &[u32],
     edition: u32,
     text: &[u32],
@@ -87,9 +103,9 @@ pub(crate) fn front(
     let buffer = &mut space[0..room];
     lent::fill_codes(buffer);
     let r = fronts::front_with(kanji, edition, text, buffer);
-    let mut o = printed::put_unclassed(out, from, r.number, r.place, r.length);
-    o = printed::put_byte(out, o, b' ');
-    o = printed::put_flag(out, o, r.unfit);
-    o = printed::put_length(out, o, r.at);
-    lent::put_codes(out, o, buffer)
+    let mut o = printed::put_unclassed(rt, out, from, r.number, r.place, r.length);
+    o = printed::put_byte(rt, out, o, b' ');
+    o = printed::put_flag(rt, out, o, r.unfit);
+    o = printed::put_length(rt, out, o, r.at);
+    lent::put_codes(rt, out, o, buffer)
 }

@@ -29,30 +29,47 @@ fn kind_letter(kind: characters::Kind) -> u8 {
 }
 
 // What a code point is: a flag for each call that says so, and its kind by either call.
-fn put_flags(kanji: &[u32], edition: u32, c: u32, out: &mut [u8], from: usize) -> usize {
-    let mut o = put_flag(out, from, characters::is_alnum(c));
-    o = put_flag(out, o, characters::is_ascii(c));
+fn put_flags(
+    rt: &impl Print,
+    kanji: &[u32],
+    edition: u32,
+    c: u32,
+    out: &mut [u8],
+    from: usize,
+) -> usize {
+    let mut o = put_flag(rt, out, from, characters::is_alnum(c));
+    o = put_flag(rt, out, o, characters::is_ascii(c));
     o = put_flag(
+        rt,
         out,
         o,
         characters::is_japanese(characters::kind_with(kanji, edition, c)),
     );
     o = put_byte(
+        rt,
         out,
         o,
         kind_letter(characters::kind_with(kanji, edition, c)),
     );
-    put_byte(out, o, kind_letter(characters::kind_of(edition, c)))
+    put_byte(rt, out, o, kind_letter(characters::kind_of(edition, c)))
 }
 
 // All that is said of a code point, and what it and the next become.
-fn put_said(kanji: &[u32], edition: u32, c: u32, next: u32, out: &mut [u8], from: usize) -> usize {
-    let mut o = put_flags(kanji, edition, c, out, from);
-    o = put_byte(out, o, class_letter(c));
-    o = put_byte(out, o, b' ');
-    o = put_hex(out, o, characters::replaced(c));
-    o = put_byte(out, o, b' ');
-    put_hex(out, o, characters::joined(c, next))
+fn put_said(
+    rt: &impl Print,
+    kanji: &[u32],
+    edition: u32,
+    c: u32,
+    next: u32,
+    out: &mut [u8],
+    from: usize,
+) -> usize {
+    let mut o = put_flags(rt, kanji, edition, c, out, from);
+    o = put_byte(rt, out, o, class_letter(c));
+    o = put_byte(rt, out, o, b' ');
+    o = put_hex(rt, out, o, characters::replaced(c));
+    o = put_byte(rt, out, o, b' ');
+    put_hex(rt, out, o, characters::joined(c, next))
 }
 
 // The number after the one at i, or 0.
@@ -68,6 +85,7 @@ fn after(numbers: &[u32], i: usize) -> u32
 
 // K: what each number is.
 pub(crate) fn kinds(
+    rt: &impl Print,
     kanji: &[u32],
     edition: u32,
     numbers: &[u32],
@@ -77,8 +95,8 @@ pub(crate) fn kinds(
     let mut o = from;
     let mut i: usize = 0;
     while i < numbers.len() {
-        o = put_gap(out, o, i);
-        o = put_said(kanji, edition, numbers[i], after(numbers, i), out, o);
+        o = put_gap(rt, out, o, i);
+        o = put_said(rt, kanji, edition, numbers[i], after(numbers, i), out, o);
         i += 1;
     }
     o

@@ -63,21 +63,21 @@ fn octets_changed(lent: &[u8]) -> usize
 }
 
 // A space and an entry, or - where it holds what it held before.
-fn put_entry(out: &mut [u8], from: usize, x: u32, before: u32) -> usize {
-    let o = put_byte(out, from, b' ');
+fn put_entry(rt: &impl Print, out: &mut [u8], from: usize, x: u32, before: u32) -> usize {
+    let o = put_byte(rt, out, from, b' ');
     if x == before {
-        return put_byte(out, o, b'-');
+        return put_byte(rt, out, o, b'-');
     }
-    put_hex(out, o, x)
+    put_hex(rt, out, o, x)
 }
 
 // The entries of a buffer of code points, up to the last one that was changed.
-pub(crate) fn put_codes(out: &mut [u8], from: usize, lent: &[u32]) -> usize {
+pub(crate) fn put_codes(rt: &impl Print, out: &mut [u8], from: usize, lent: &[u32]) -> usize {
     let n = codes_changed(lent);
     let mut o = from;
     let mut i: usize = 0;
     while i < n {
-        o = put_entry(out, o, lent[i], code_before(i));
+        o = put_entry(rt, out, o, lent[i], code_before(i));
         i += 1;
     }
     o
@@ -90,12 +90,12 @@ fn as_number(b: u8) -> u32
 }
 
 // The entries of a buffer of octets, up to the last one that was changed.
-pub(crate) fn put_octets(out: &mut [u8], from: usize, lent: &[u8]) -> usize {
+pub(crate) fn put_octets(rt: &impl Print, out: &mut [u8], from: usize, lent: &[u8]) -> usize {
     let n = octets_changed(lent);
     let mut o = from;
     let mut i: usize = 0;
     while i < n {
-        o = put_entry(out, o, as_number(lent[i]), as_number(octet_before(i)));
+        o = put_entry(rt, out, o, as_number(lent[i]), as_number(octet_before(i)));
         i += 1;
     }
     o

@@ -18,6 +18,7 @@ fn checked(
 
 // C, c: the check.
 pub(crate) fn check(
+    rt: &impl Print,
     kanji: &[u32],
     edition: u32,
     own: bool,
@@ -34,8 +35,8 @@ pub(crate) fn check(
     let r = checked(kanji, edition, own, text, buffer);
     let class = r.class;
     let labels = r.labels;
-    let o = printed::put_classed(out, from, r.number, r.place, class, labels, r.length);
-    lent::put_codes(out, o, buffer)
+    let o = printed::put_classed(rt, out, from, r.number, r.place, class, labels, r.length);
+    lent::put_codes(rt, out, o, buffer)
 }
 
 fn in_ascii(
@@ -53,6 +54,7 @@ fn in_ascii(
 
 // A, a: the whole ASCII form.
 pub(crate) fn to_ascii(
+    rt: &impl Print,
     kanji: &[u32],
     edition: u32,
     own: bool,
@@ -67,16 +69,23 @@ pub(crate) fn to_ascii(
     let buffer = &mut space[0..room];
     lent::fill_octets(buffer);
     let r = in_ascii(kanji, edition, own, text, buffer);
-    let o = printed::put_form(out, from, r);
-    lent::put_octets(out, o, buffer)
+    let o = printed::put_form(rt, out, from, r);
+    lent::put_octets(rt, out, o, buffer)
 }
 
 // S, s: the second reader, which stays with the edition in force.
-pub(crate) fn reads(kanji: &[u32], own: bool, label: &[u32], out: &mut [u8], o: usize) -> usize {
+pub(crate) fn reads(
+    rt: &impl Print,
+    kanji: &[u32],
+    own: bool,
+    label: &[u32],
+    out: &mut [u8],
+    o: usize,
+) -> usize {
     if own {
-        return printed::put_flag(out, o, readers::reads(label));
+        return printed::put_flag(rt, out, o, readers::reads(label));
     }
-    printed::put_flag(out, o, readers::reads_with(kanji, label))
+    printed::put_flag(rt, out, o, readers::reads_with(kanji, label))
 }
 
 fn searched(kanji: &[u32], own: bool, text: &[u32]) -> searches::Searched {
@@ -88,6 +97,7 @@ fn searched(kanji: &[u32], own: bool, text: &[u32]) -> searches::Searched {
 
 // Z, z: yes or no for the search box, which stays with the edition in force.
 pub(crate) fn acceptable(
+    rt: &impl Print,
     kanji: &[u32],
     own: bool,
     text: &[u32],
@@ -95,7 +105,7 @@ pub(crate) fn acceptable(
     o: usize,
 ) -> usize {
     let r = searched(kanji, own, text);
-    printed::put_counted(out, o, r.yes, r.read)
+    printed::put_counted(rt, out, o, r.yes, r.read)
 }
 
 fn judged(kanji: &[u32], edition: u32, own: bool, text: &[u32]) -> names::Judged {
@@ -107,6 +117,7 @@ fn judged(kanji: &[u32], edition: u32, own: bool, text: &[u32]) -> names::Judged
 
 // J, j: the judge.
 pub(crate) fn judge(
+    rt: &impl Print,
     kanji: &[u32],
     edition: u32,
     own: bool,
@@ -114,5 +125,5 @@ pub(crate) fn judge(
     out: &mut [u8],
     o: usize,
 ) -> usize {
-    streams::put_judged(out, o, judged(kanji, edition, own, text))
+    streams::put_judged(rt, out, o, judged(kanji, edition, own, text))
 }

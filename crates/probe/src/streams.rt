@@ -33,29 +33,30 @@ fn shown(form: &[u32]) -> usize
 }
 
 // The entries of the array that a look shows, each after a space.
-pub(crate) fn put_shown(out: &mut [u8], from: usize, form: &[u32]) -> usize {
+pub(crate) fn put_shown(rt: &impl Print, out: &mut [u8], from: usize, form: &[u32]) -> usize {
     let n = shown(form);
     let mut o = from;
     let mut i: usize = 0;
     while i < n {
-        o = printed::put_byte(out, o, b' ');
-        o = printed::put_hex(out, o, form[i]);
+        o = printed::put_byte(rt, out, o, b' ');
+        o = printed::put_hex(rt, out, o, form[i]);
         i += 1;
     }
     o
 }
 
 // What the judge says of a text, or a look at the live check.
-pub(crate) fn put_judged(out: &mut [u8], from: usize, j: names::Judged) -> usize {
+pub(crate) fn put_judged(rt: &impl Print, out: &mut [u8], from: usize, j: names::Judged) -> usize {
     let class = j.class;
     let labels = j.labels;
     let form = j.form;
-    let o = printed::put_classed(out, from, j.number, j.place, class, labels, j.length);
-    put_shown(out, o, &form)
+    let o = printed::put_classed(rt, out, from, j.number, j.place, class, labels, j.length);
+    put_shown(rt, out, o, &form)
 }
 
 // L, l: the live check, looked at after the last code point, with the table of kanji lent or by its own.
 pub(crate) fn live_check(
+    rt: &impl Print,
     kanji: &[u32],
     edition: u32,
     own: bool,
@@ -65,19 +66,26 @@ pub(crate) fn live_check(
 ) -> usize {
     let state = typed(edition, text);
     if own {
-        return put_judged(out, o, state.look());
+        return put_judged(rt, out, o, state.look());
     }
-    put_judged(out, o, state.look_with(kanji))
+    put_judged(rt, out, o, state.look_with(kanji))
 }
 
 // A flag for what is typed so far, after each code point, from none on: may it yet become a name?
-fn put_hopes(kanji: &[u32], edition: u32, text: &[u32], out: &mut [u8], from: usize) -> usize {
+fn put_hopes(
+    rt: &impl Print,
+    kanji: &[u32],
+    edition: u32,
+    text: &[u32],
+    out: &mut [u8],
+    from: usize,
+) -> usize {
     let mut state = live::Live::fresh(edition);
-    let mut o = printed::put_flag(out, from, state.may_become_with(kanji));
+    let mut o = printed::put_flag(rt, out, from, state.may_become_with(kanji));
     let mut i: usize = 0;
     while i < text.len() {
         state = state.step(text[i]);
-        o = printed::put_flag(out, o, state.may_become_with(kanji));
+        o = printed::put_flag(rt, out, o, state.may_become_with(kanji));
         i += 1;
     }
     o
@@ -85,38 +93,46 @@ fn put_hopes(kanji: &[u32], edition: u32, text: &[u32], out: &mut [u8], from: us
 
 // M: may it yet become a name? The live check after each code point; then the other calls that say so, on the whole text.
 pub(crate) fn hope(
+    rt: &impl Print,
     kanji: &[u32],
     edition: u32,
     text: &[u32],
     out: &mut [u8],
     from: usize,
 ) -> usize {
-    let o = put_hopes(kanji, edition, text, out, from);
-    let p = printed::put_byte(out, o, b' ');
-    let q = printed::put_flag(out, p, hopes::may_become_with(kanji, edition, text));
-    let r = printed::put_flag(out, q, hopes::may_become(edition, text));
+    let o = put_hopes(rt, kanji, edition, text, out, from);
+    let p = printed::put_byte(rt, out, o, b' ');
+    let q = printed::put_flag(rt, out, p, hopes::may_become_with(kanji, edition, text));
+    let r = printed::put_flag(rt, out, q, hopes::may_become(edition, text));
     let state = typed(edition, text);
-    printed::put_flag(out, r, state.may_become())
+    printed::put_flag(rt, out, r, state.may_become())
 }
 
 // An octet, with a space before it unless it is the first.
-fn put_next(out: &mut [u8], from: usize, b: u8, first: bool) -> usize {
+fn put_next(rt: &impl Print, out: &mut [u8], from: usize, b: u8, first: bool) -> usize {
     if first {
-        return printed::put_octet(out, from, b);
+        return printed::put_octet(rt, out, from, b);
     }
-    let o = printed::put_byte(out, from, b' ');
-    printed::put_octet(out, o, b)
+    let o = printed::put_byte(rt, out, from, b' ');
+    printed::put_octet(rt, out, o, b)
 }
 
 // The first n octets of what a batch was lent, with a space between one and the next; `first` says that none came before.
-fn put_reply(out: &mut [u8], from: usize, reply: &[u8], n: usize, first: bool) -> usize {
+fn put_reply(
+    rt: &impl Print,
+    out: &mut [u8],
+    from: usize,
+    reply: &[u8],
+    n: usize,
+    first: bool,
+) -> usize {
     let mut o = from;
     let mut i: usize = 0;
     while i < reply.len() {
         if n <= i {
             return o;
         }
-        o = put_next(out, o, reply[i], first && i == 0);
+        o = put_next(rt, out, o, reply[i], first && i == 0);
         i += 1;
     }
     o
@@ -150,6 +166,7 @@ fn piece_next(octets: &[u8], at: usize, e: usize, used: usize) -> usize
 
 // B: the batch, fed in pieces, each with all of `reply` for its answers.
 pub(crate) fn whole_batch(
+    rt: &impl Print,
     kanji: &[u32],
     octets: &[u8],
     reply: &mut [u8],
@@ -163,11 +180,11 @@ pub(crate) fn whole_batch(
     while at < octets.len() {
         let e = piece_end(octets, at);
         let f = batch::stream::feed_with(kanji, line, &octets[at..e], reply);
-        o = put_reply(out, o, reply, f.wrote, first);
+        o = put_reply(rt, out, o, reply, f.wrote, first);
         first = first && f.wrote == 0;
         at = piece_next(octets, at, e, f.used);
         line = f.line;
     }
     let f = batch::stream::finish_with(kanji, line, reply);
-    put_reply(out, o, reply, f.wrote, first)
+    put_reply(rt, out, o, reply, f.wrote, first)
 }

@@ -6,7 +6,6 @@
 // It has no call of its own: only the types that the definitions and the calls share, and the number of the edition in force.
 #![tactic(auto)]
 
-
 // The edition in force (specs/Editions).
 pub const IN_FORCE: u32 = 4;
 

@@ -3,14 +3,14 @@
 -- Assumes nothing.
 use mathlib.Core.Path.{◌≡◌, refl, sym, ap, ◌∙◌}
 use mathlib.Core.Bool.{Bool, true, false, not}
-use mathlib.Core.List.{List, [], ◌∷◌, ◌++◌}
+use mathlib.Core.List.{List, [], ◌∷◌}
 use Prim.Native.Nat.{ℕ, suc, ◌≤◌}
 use native.Mathlib.Omega.{arith}
 use lib.Dec.{eqb, leb, ltb}
 use lib.ListN.{length, take, get_or}
 use borrow.Author.Tests.{le-ltb}
 use Rattle.lists.specs.Tests.{pick, all_of}
-use Rattle.lists.specs.Rows.{Row, row, first}
+use Rattle.lists.specs.Rows.{Row, first}
 use Rattle.lists.specs.declared.Answer.{Answer}
 use Rattle.lists.proofs.Laws.{clash}
 use Rattle.lists.proofs.Tables.{of_two, of_rows, passed_over}

@@ -1,4 +1,3 @@
-use Prim.Native.Nat.{◌-◌}
 use native.Mathlib.Omega.{arith}
 use Rattle.lists.proofs.Scan.{any_here, any_on, any_end}
 use Rattle.labels.proofs.any_ordinary.Goals as goal

@@ -1,4 +1,3 @@
-use Prim.Native.Nat.{◌-◌}
 use native.Mathlib.Omega.{arith}
 use Rattle.lists.proofs.Scan.{first_here, first_on, first_end}
 use Rattle.labels.proofs.first_unfit_with.Goals as goal

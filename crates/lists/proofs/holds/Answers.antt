@@ -1,4 +1,3 @@
-use Prim.Native.Nat.{◌-◌}
 use native.Mathlib.Omega.{arith}
 use Rattle.lists.proofs.Scan.{elem_here, elem_on, elem_end}
 use Rattle.lists.proofs.holds.Goals as goal

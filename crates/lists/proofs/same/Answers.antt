@@ -1,4 +1,3 @@
-use Prim.Native.Nat.{◌-◌}
 use native.Mathlib.Omega.{arith}
 use Rattle.lists.proofs.Scan.{unlike, same_no, same_on, same_end}
 use Rattle.lists.proofs.same.Goals as goal

@@ -1,4 +1,3 @@
-use Prim.Native.Nat.{◌-◌}
 use native.Mathlib.Omega.{arith}
 use Rattle.normal.proofs.Pending.{no_places_lem, walk_begins, reached, passed, joined_on, reached_last, none_there}
 use Rattle.normal.proofs.place_of.Goals as goal

@@ -1,6 +1,5 @@
 -- The two rules of the second reader meet their contracts: each hands the rest of the label on, and the rest is shorter.
 -- Assumes nothing.
-use Prim.Native.Nat.{ℕ}
 use lib.ListN.{length}
 use Rattle.readers.proofs.+after_character_after_hyphen.Given as goal
 

@@ -1,5 +1,4 @@
 use mathlib.Core.Path.{sym, ◌∙◌}
-use Prim.Native.Nat.{◌-◌}
 use native.Mathlib.Omega.{arith}
 use Rattle.searches.proofs.Walking.{lent_joins, walk_joins, walk_stops, walk_on, walk_ends}
 use Rattle.searches.proofs.first_stop.Goals as goal

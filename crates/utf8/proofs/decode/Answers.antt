@@ -1,7 +1,6 @@
 -- `decode` meets its contract: where there is a fault nothing was done, and where there is none the pass reads all.
 -- Assumes nothing.
 use mathlib.Core.Path.{sym, ◌∙◌}
-use borrow.Author.Tests.{not-true, not-false}
 use Rattle.utf8.proofs.Decoding.{refused, well}
 use Rattle.utf8.proofs.decode.Goals as goal
 

@@ -1,6 +1,4 @@
-use borrow.Author.Tests.{not-true, not-false}
 use mathlib.Core.Path.{sym, ◌∙◌}
-use Prim.Native.Nat.{◌-◌}
 use native.Mathlib.Omega.{arith}
 use Rattle.lists.proofs.Laws.{in_range}
 use Rattle.utf8.proofs.Decoding.{begins, stays, puts_one, faults, ends, ascii, begun_lead, no_lead, starts_lead, no_next, onward, ended, unfit, fits, grows}

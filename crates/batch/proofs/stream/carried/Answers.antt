@@ -1,5 +1,4 @@
 use mathlib.Core.Path.{refl, sym, ◌∙◌}
-use Prim.Native.Nat.{◌-◌}
 use native.Mathlib.Omega.{arith}
 use Rattle.batch.proofs.Turns.{push_short, push_over, push_end}
 use Rattle.batch.proofs.stream.carried.Goals as goal

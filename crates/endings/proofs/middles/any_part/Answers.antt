@@ -1,4 +1,3 @@
-use Prim.Native.Nat.{◌-◌}
 use native.Mathlib.Omega.{arith}
 use Rattle.endings.specs.Parts.{is_part}
 use Rattle.endings.proofs.Middle.{at_first, bounds, part_here, part_on, part_end}

@@ -1,5 +1,4 @@
 use mathlib.Core.Path.{◌∙◌}
-use Prim.Native.Nat.{◌-◌}
 use native.Mathlib.Omega.{arith}
 use Rattle.hosts.proofs.Putting.{hosts_all, host_bounds, host_length, ready, host_last, host_room, host_on}
 use Rattle.hosts.proofs.forms.put_labels.Goals as goal

@@ -1,4 +1,3 @@
-use Prim.Native.Nat.{◌-◌}
 use native.Mathlib.Omega.{arith}
 use Rattle.hosts.proofs.Counting.{counts, count_bounds, this_writable, count_refused, at_most, count_last, count_on}
 use Rattle.hosts.proofs.labelled.coded_rule.Goals as goal

@@ -1,4 +1,3 @@
-use Prim.Native.Nat.{◌-◌}
 use native.Mathlib.Omega.{arith}
 use Rattle.rules.proofs.Cuts.{ended}
 use Rattle.hosts.proofs.Walking.{asks_all, ask_stops, ask_last, ask_on}

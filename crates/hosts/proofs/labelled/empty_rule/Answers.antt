@@ -1,4 +1,3 @@
-use Prim.Native.Nat.{◌-◌}
 use native.Mathlib.Omega.{arith}
 use Rattle.rules.specs.Permits.{is_empty}
 use Rattle.hosts.proofs.Walking.{seeks, seek_bounds, is_filled, empty_found, none_empty, seek_on}

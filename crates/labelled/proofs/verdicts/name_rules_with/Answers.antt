@@ -2,7 +2,6 @@
 -- Assumes nothing.
 use mathlib.Core.Path.{sym, ap, ◌∙◌}
 use native.Mathlib.Omega.{arith}
-use borrow.Author.Tests.{not-true, not-false}
 use Rattle.rules.specs.Rules.{by_labels}
 use Rattle.labelled.proofs.Cutting.{ends_at}
 use Rattle.labelled.proofs.OfName.{three_refused, other_count}

@@ -2,7 +2,6 @@
 -- Assumes nothing.
 use mathlib.Core.Path.{sym, ap, ◌∙◌}
 use mathlib.Core.Bool.{not}
-use borrow.Author.Tests.{not-true, not-false}
 use Rattle.rules.specs.Rules.{class_of}
 use Rattle.rules.proofs.Steps.{name_left, name_11, name_12, name_0}
 use Rattle.labelled.proofs.OfName.{three_0, three_1, three_2, three_filled, lent_three, lent_may, middle_is}

@@ -1,7 +1,5 @@
 use mathlib.Core.Path.{refl, sym, ◌∙◌}
-use Prim.Native.Nat.{◌-◌}
 use native.Mathlib.Omega.{arith}
-use borrow.Author.Tests.{not-true, not-false}
 use Rattle.characters.specs.Characters.{kind_letter, any_kind}
 use Rattle.rules.specs.Kinds.{same_kind}
 use Rattle.labels.proofs.Holding.{together, only, unseen, ascii_on, ascii_not, kind_on, kind_not, all_seen}

@@ -1,5 +1,4 @@
 use mathlib.Core.Path.{◌∙◌}
-use Prim.Native.Nat.{◌-◌}
 use native.Mathlib.Omega.{arith}
 use borrow.Author.Tests.{not-true, not-false}
 use Rattle.names.proofs.Joining.{names, turn_bounds, out_length, this_writable, this_room, turn_refused, names_last, period_room, names_on}
