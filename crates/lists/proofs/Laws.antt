@@ -113,6 +113,10 @@ entry_of f d e [] k a = e
 entry_of f d e (x ∷ xs) zero a = (both (f x) (all_of f xs) a).0
 entry_of f d e (x ∷ xs) (suc k) a = entry_of f d e xs k (both (f x) (all_of f xs) a).1
 
+-- .. of the first
+pub first_of : {A : Type 0} (f : A → Bool) (d : A) → f d ≡ true → (l : List A) → all_of f l ≡ true → f (get_or l 0 d) ≡ true
+first_of f d e l = entry_of f d e l 0
+
 -- where f holds of all, so does what f implies
 pub all_weaker : {A : Type 0} (f g : A → Bool) (imp : (c : A) → f c ≡ true → g c ≡ true) (l : List A) → all_of f l ≡ true → all_of g l ≡ true
 unfolding all_of

@@ -13,7 +13,7 @@ use borrow.Author.Tests.{not-true, not-false}
 use Rattle.lists.specs.Tests.{all_of, any_of, same}
 use Rattle.lists.specs.Front.{written}
 use Rattle.lists.specs.Rows.{Clear}
-use Rattle.lists.proofs.Laws.{both, or_right, entry_of, same_is}
+use Rattle.lists.proofs.Laws.{both, or_right, first_of, same_is}
 use Rattle.normal.specs.Normal.{normal_form}
 use Rattle.rules.specs.Labels.{labels}
 use Rattle.rules.specs.Permits.{Permits, ShortMiddles, label_char, middle}
@@ -82,7 +82,7 @@ leftmost_kinds : (P : Permits) (text : List ℕ) → Clear (text_rows P text)
     → (held_in P (get_or (labels (normal_form text)) 0 [])).kinds ≡ kinds_in P (get_or (labels (normal_form text)) 0 [])
 unfolding held_in all_of
 leftmost_kinds P text c =
-    rw (entry_of (all_of (label_char P)) [] refl (labels (normal_form text)) 0 (labels_fit P (normal_form text) (clear_text P text c).0.fit))
+    rw (first_of (all_of (label_char P)) [] refl (labels (normal_form text)) (labels_fit P (normal_form text) (clear_text P text c).0.fit))
 
 -- ---- what is put is the form
 

@@ -1,5 +1,4 @@
 use native.Mathlib.Omega.{arith}
-use Rattle.endings.specs.Parts.{is_part}
 use Rattle.endings.proofs.Middle.{at_first, bounds, part_here, part_on, part_end}
 use Rattle.endings.proofs.middles.any_part.Goals as goal
 
