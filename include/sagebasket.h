@@ -26,7 +26,7 @@
  * decides what is returned, all numbers of the lent answer, every entry of the lent buffer and the lent count, as said
  * below.
  * WHAT IS NOT. The compiler and the linker, that this header says what the contracts say, how much time and stack a
- * call takes (12 KiB were the most that was seen, on Arm), and that the definitions are what the registry means. Tests
+ * call takes (12 KiB were the most that was seen, on Arm with an older compiler), and that the definitions are what the registry means. Tests
  * run every call across the border beside `desk` and beside a second implementation.
  *
  * 0 says that a name may be filed by its form. It does not say that the name is free.
