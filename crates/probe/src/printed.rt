@@ -55,13 +55,15 @@ fn put_bytes(rt: &impl Print, out: &mut [u8], from: usize, s: &[u8]) -> usize {
     o
 }
 
-// x in decimal.
-pub(crate) fn put_decimal(rt: &impl Print, out: &mut [u8], o: usize, x: u64) -> usize {
+// x in a base. 20 digits are enough from 10 on.
+fn put_digits(rt: &impl Print, out: &mut [u8], o: usize, x: u64, base: u64) -> usize
+    requires { (10 ≤ base) × (base ≤ 16) }
+{
     let mut digits = [0u8; 20];
     let mut rest = x;
     for i in (0..20).rev() {
-        digits[i] = DIGITS[(rest % 10) as usize];
-        rest /= 10;
+        digits[i] = DIGITS[(rest % base) as usize];
+        rest /= base;
         if rest == 0 {
             return put_bytes(rt, out, o, &digits[i..]);
         }
@@ -69,18 +71,14 @@ pub(crate) fn put_decimal(rt: &impl Print, out: &mut [u8], o: usize, x: u64) -> 
     put_bytes(rt, out, o, &digits)
 }
 
+// x in decimal.
+pub(crate) fn put_decimal(rt: &impl Print, out: &mut [u8], o: usize, x: u64) -> usize {
+    put_digits(rt, out, o, x, 10)
+}
+
 // x in hexadecimal.
 pub(crate) fn put_hex(rt: &impl Print, out: &mut [u8], o: usize, x: u32) -> usize {
-    let mut digits = [0u8; 8];
-    let mut rest = x;
-    for i in (0..8).rev() {
-        digits[i] = DIGITS[(rest % 16) as usize];
-        rest /= 16;
-        if rest == 0 {
-            return put_bytes(rt, out, o, &digits[i..]);
-        }
-    }
-    put_bytes(rt, out, o, &digits)
+    put_digits(rt, out, o, x as u64, 16)
 }
 
 // An octet in hexadecimal.
