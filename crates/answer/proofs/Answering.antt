@@ -9,24 +9,23 @@ use native.Mathlib.Omega.{arith}
 use lib.Dec.{ltb}
 use lib.ListN.{length, take, drop, length-drop, length-take}
 use lib.Seq.{take_all, take_at, length-take-le}
-use borrow.Author.Tests.{ne_eqb, lt-ltb, le-ltb, le-leb, lt-leb}
+use borrow.Author.Tests.{ne_eqb, lt-ltb, le-ltb}
 use Rattle.lists.specs.Tests.{pick, index_of}
-use Rattle.lists.specs.Front.{written, Puts}
+use Rattle.lists.specs.Front.{written}
 use Rattle.lists.specs.Rows.{first}
-use Rattle.lists.specs.declared.Answer.{Answer}
+use Rattle.lists.specs.Rows.{Answer}
 use Rattle.lists.proofs.Laws.{both, by_test, lt_or_le}
-use Rattle.lists.proofs.Pieces.{nothing}
 use Rattle.lists.proofs.Scan.{found_inside}
 use Rattle.lists.proofs.Tables.{passed_over, refused_before}
 use Rattle.rules.specs.Permits.{Permits}
 use Rattle.rules.specs.Rules.{text_rows, verdict}
 use Rattle.rules.proofs.Steps.{front_3, first_25, first_front}
 use Rattle.names.specs.Calls.{ascii_rows, kinds_said}
-use Rattle.lines.specs.declared.Parts.TheVariants.{Two, Other}
+use Rattle.std.specs.Prelude.{Some, None}
 use Rattle.utf8.specs.Utf8.{decoded}
 use Rattle.lines.specs.Fields.{tab, id_of, name_of, one_tab, good_id, parts_of}
 use Rattle.answer.specs.Answer.{bad_line, refused_answer, bad_answer, good_answer, answer_to}
-use Rattle.answer.specs.Answers.{most, Writes, fields_answer}
+use Rattle.answer.specs.Answers.{fields_answer}
 
 -- ---- a text of more than 256 code points is refused with 3 at 256, or with 25 by no edition, whatever it holds
 
@@ -55,11 +54,11 @@ module _ (P : Permits) (id : List ℕ) where
 
 -- what is lent of a decoded name: its first 257 code points
 pub lent_name : (codes before after : List ℕ) (n : ℕ) → length before ≡ 257 → after ≡ written (take (length before) codes) before → n ≡ min (length codes) 257
-    → take (n - 0) after ≡ take 257 codes
+    → take n after ≡ take 257 codes
 unfolding written
 lent_name codes before after n e f g =
-    let k : n - 0 ≡ length (take 257 codes) = omega (arith, length-take 257 codes) in
-    ap (take (n - 0)) f ∙ rw e (rw k (take_at (take 257 codes) _ (length (take 257 codes)) refl))
+    let k : n ≡ length (take 257 codes) = omega (arith, length-take 257 codes) in
+    ap (take n) f ∙ rw e (rw k (take_at (take 257 codes) _ (length (take 257 codes)) refl))
 
 module _ (P : Permits) (id name : List ℕ) where
   pub bad_id : good_id id ≡ false → fields_answer P id name ≡ bad_answer
@@ -85,11 +84,11 @@ module _ (P : Permits) (line : List ℕ) where
   long_line h = simp (lt-ltb 1024 (length line) h)
 
   module _ (h : length line ≤ 1024) where
-    pub no_parts : Other ≡ parts_of line → answer_to P line ≡ bad_answer
+    pub no_parts : None ≡ parts_of line → answer_to P line ≡ bad_answer
     unfolding parts_of answer_to bad_line
     no_parts e = go (one_tab line) refl e
       where
-        go : (b : Bool) → one_tab line ≡ b → Other ≡ pick b (Two (index_of tab line)) Other → answer_to P line ≡ bad_answer
+        go : (b : Bool) → one_tab line ≡ b → None ≡ pick b (Some (index_of tab line)) None → answer_to P line ≡ bad_answer
         go true q p = absurd (let z : ◌≡◌ {A = ℕ} 0 1 = cc in omega arith)
         go false q p = simp (le-ltb 1024 (length line) h, q)
 
@@ -103,36 +102,25 @@ pub record Parted (line : List ℕ) (t : ℕ) : Type 0 where
   pub at : t ≡ index_of tab line
   pub inside : t < length line
 
-pub parted : (line : List ℕ) (t : ℕ) → Two t ≡ parts_of line → Parted line t
+pub parted : (line : List ℕ) (t : ℕ) → Some t ≡ parts_of line → Parted line t
 unfolding parts_of one_tab
 parted line t e = go (one_tab line) refl e
   where
-    go : (b : Bool) → one_tab line ≡ b → Two t ≡ pick b (Two (index_of tab line)) Other → Parted line t
+    go : (b : Bool) → one_tab line ≡ b → Some t ≡ pick b (Some (index_of tab line)) None → Parted line t
     go true q p =
         let z : t ≡ index_of tab line = cc in
         record { one = q; at = z; inside = omega (arith, z, found_inside tab line (both _ _ q).0) }
     go false q p = absurd (let z : ◌≡◌ {A = ℕ} 0 1 = cc in omega arith)
 
-pub line_fields : (P : Permits) (line : List ℕ) (t : ℕ) → length line ≤ 1024 → Two t ≡ parts_of line
-    → answer_to P line ≡ fields_answer P (take (t - 0) line) (take (length line - (t + 1)) (drop (t + 1) line))
+pub tab_inside : (line : List ℕ) (t : ℕ) → Some t ≡ parts_of line → t < length line
+tab_inside line t e = (parted line t e).inside
+
+pub line_fields : (P : Permits) (line : List ℕ) (t : ℕ) → length line ≤ 1024 → Some t ≡ parts_of line
+    → answer_to P line ≡ fields_answer P (take t line) (take (length line - (t + 1)) (drop (t + 1) line))
 unfolding id_of name_of
 line_fields P line t h e =
     let p = parted line t e in
-    let z : t - 0 ≡ index_of tab line = omega (arith, p.at) in
     let w : t + 1 ≡ suc (index_of tab line) = omega (arith, p.at) in
     let d : List ℕ = drop (suc (index_of tab line)) line in
     two_parts P line h p.one
-    ∙ sym (rw (z, w) (ap (fields_answer P (take (index_of tab line) line)) (take_all (length line - suc (index_of tab line)) d (omega (arith, length-drop (suc (index_of tab line)) line)))))
-
--- ---- the call
-
-module _ (xs before : List ℕ) where
-  pub no_room : length before < most → Writes xs before before (record { done = false; length = 0 })
-  no_room h =
-      let e = lt-leb most (length before) h in
-      record { done = sym e; text = rw e nothing }
-
-  pub in_room : (after : List ℕ) (r : ℕ) → most ≤ length before → Puts xs before after 0 r → Writes xs before after (record { done = true; length = r })
-  in_room after r h x =
-      let e = le-leb most (length before) h in
-      record { done = sym e; text = rw e x }
+    ∙ sym (rw (w, p.at) (ap (fields_answer P (take (index_of tab line) line)) (take_all (length line - suc (index_of tab line)) d (omega (arith, length-drop (suc (index_of tab line)) line)))))

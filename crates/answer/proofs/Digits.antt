@@ -12,7 +12,7 @@ use lib.ListN.{length, get_or}
 use borrow.Author.Tests.{eqb-true, le-leb, leb-true}
 use Rattle.lists.specs.Tests.{all_of, any_of, index_of}
 use Rattle.lists.specs.Rows.{Row, row, first}
-use Rattle.lists.specs.declared.Answer.{Answer}
+use Rattle.lists.specs.Rows.{Answer}
 use Rattle.lists.proofs.Laws.{either, lt_or_le, index_bound}
 use Rattle.lists.proofs.Tables.{of_two, of_rows, only, never_given}
 use Rattle.normal.specs.Normal.{normal_form, places}
@@ -20,7 +20,7 @@ use Rattle.normal.proofs.Origins.{began_inside}
 use Rattle.rules.specs.Labels.{labels}
 use Rattle.rules.specs.Permits.{Permits, is_empty}
 use Rattle.rules.specs.Rules.{unfit, label_rows, name_rows, front_rows, text_rows, verdict}
-use Rattle.rules.specs.declared.Verdict.{Verdict}
+use Rattle.rules.specs.Verdicts.{Verdict}
 use Rattle.rules.proofs.Derived.{two_or_three}
 use Rattle.rules.proofs.Steps.{front_3, name_5}
 use Rattle.ascii.specs.Ascii.{uncoded}

@@ -20,8 +20,8 @@ use Rattle.rules.specs.Permits.{Permits, is_empty}
 use Rattle.rules.specs.Kinds.{kinds_in, no_kinds}
 use Rattle.rules.specs.Rules.{verdict}
 use Rattle.rules.specs.declared.Kinds.{Kinds}
-use Rattle.rules.specs.declared.Class.{Class}
-use Rattle.rules.specs.declared.Class.TheVariants.{None, General, Prefecture}
+use Rattle.rules.specs.Verdicts.{Class}
+use Rattle.rules.specs.Verdicts.{None, General, Prefecture}
 use Rattle.ascii.specs.Ascii.{ascii_form, in_form}
 use Rattle.names.specs.Calls.{kinds_said, FormGiven}
 use Rattle.names.proofs.OneForm.{given_ascii, rows_give}

@@ -21,9 +21,9 @@ use Rattle.rules.specs.Editions.{today, today_with}
 use Rattle.rules.proofs.Editions.{lending, lent_short}
 use Rattle.rules.specs.Kinds.{no_kinds}
 use Rattle.rules.specs.declared.Kinds.{Kinds}
-use Rattle.rules.specs.declared.Class.{Class}
-use Rattle.rules.specs.declared.Class.TheVariants.{None}
-use Rattle.rules.specs.declared.Verdict.{Verdict}
+use Rattle.rules.specs.Verdicts.{Class}
+use Rattle.rules.specs.Verdicts.{None}
+use Rattle.rules.specs.Verdicts.{Verdict}
 use Rattle.ascii.specs.Ascii.{ascii_label, ascii_form, uncoded, writable}
 use Rattle.ascii.proofs.OfNames.{label_size}
 use Rattle.names.specs.Calls.{ascii_rows, kinds_said}

@@ -15,11 +15,11 @@ use Rattle.lists.specs.Front.{Puts}
 use Rattle.lists.proofs.Laws.{lt_or_le, by_test, all_append, no_entries}
 use Rattle.lists.proofs.Pieces.{stays}
 use Rattle.characters.specs.Characters.{kind_letter}
-use Rattle.characters.specs.declared.Kind.{Kind}
-use Rattle.characters.specs.declared.Kind.TheVariants.{Hiragana, Katakana, Kanji, Sign, None}
+use Rattle.characters.specs.Kinds.{Kind}
+use Rattle.characters.specs.Kinds.{Hiragana, Katakana, Kanji, Sign, None}
 use Rattle.rules.specs.Permits.{is_empty}
 use Rattle.rules.proofs.Steps.{empty_is}
-use Rattle.rules.specs.declared.Class.{Class}
+use Rattle.rules.specs.Verdicts.{Class}
 use Rattle.rules.specs.declared.Kinds.{Kinds}
 use Rattle.answer.specs.Answer.{decimal_by, decimal, letter, letter_if, kind_letters, kind_field, answer_line, refused_answer}
 use Rattle.answer.specs.Answers.{front_of, before_form, after_form}
@@ -60,13 +60,6 @@ unfolding front_of
 front_length id number place = simp length-append (omega (arith, decimal_length number, decimal_length place))
 
 -- ---- the kinds
-
-module _ {before : List ℕ} {n : ℕ} (found : Bool) (letter : ℕ) where
-  pub found_put : {after : List ℕ} {r : ℕ} → found ≡ true → Puts (letter ∷ []) before after n r → Puts (pick found (letter ∷ []) []) before after n r
-  found_put e p = rw e p
-
-  pub found_none : found ≡ false → n < length before → Puts (pick found (letter ∷ []) []) before before n n
-  found_none e h = rw e (stays (omega arith))
 
 found_length : (found : Bool) (letter : ℕ) → length (pick found (letter ∷ []) []) ≤ 1
 found_length true letter = omega arith

@@ -12,17 +12,17 @@ use borrow.Author.Tests.{eq-eqb, ne_eqb}
 use Rattle.lists.specs.Tests.{pick}
 use Rattle.lists.specs.Front.{written, Puts}
 use Rattle.lists.specs.Rows.{first, given}
-use Rattle.lists.specs.declared.Answer.{Answer}
+use Rattle.lists.specs.Rows.{Answer}
 use Rattle.lists.proofs.Pieces.{then}
 use Rattle.lists.proofs.Tables.{clear, given_all, given_none}
 use Rattle.normal.specs.Normal.{normal_form}
 use Rattle.rules.specs.Labels.{labels}
 use Rattle.rules.specs.Permits.{Permits}
 use Rattle.rules.specs.Rules.{verdict}
-use Rattle.rules.specs.declared.Verdict.{Verdict}
+use Rattle.rules.specs.Verdicts.{Verdict}
 use Rattle.ascii.specs.Ascii.{ascii_form}
 use Rattle.names.specs.Calls.{Answers, kinds_said, ascii_formed, ascii_rows, AsciiForms}
-use Rattle.names.specs.declared.AsciiForm.{AsciiForm}
+use Rattle.names.specs.Calls.{AsciiForm}
 use Rattle.names.proofs.Answering.{ascii_cleared}
 use Rattle.answer.specs.Answer.{answer_line, refused_answer, good_answer}
 use Rattle.answer.specs.Answers.{before_form, after_form}

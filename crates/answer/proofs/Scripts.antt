@@ -11,8 +11,8 @@ use Rattle.lists.specs.Tests.{pick, any_of, elem}
 use Rattle.lists.proofs.Laws.{any_append, clash}
 use Rattle.characters.specs.Characters.{kind_letter, any_kind}
 use Rattle.characters.specs.KanjiBits.{kanji_bits}
-use Rattle.characters.specs.declared.Kind.{Kind}
-use Rattle.characters.specs.declared.Kind.TheVariants.{Hiragana, Katakana, Kanji, Sign, None}
+use Rattle.characters.specs.Kinds.{Kind}
+use Rattle.characters.specs.Kinds.{Hiragana, Katakana, Kanji, Sign, None}
 use Rattle.rules.specs.Permits.{Permits, is_empty}
 use Rattle.rules.specs.Kinds.{found, kinds_in}
 use Rattle.rules.specs.Editions.{today}

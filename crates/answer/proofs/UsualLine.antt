@@ -97,7 +97,7 @@ module _ (s : List ℕ) {k t e : ℕ} {rest : List ℕ} (high : k ≤ length s) 
 
   pub answered : (P : Permits) {codes before after : List ℕ} {n : ℕ} → e < 64
       → decoded name ≡ record { codes = codes; ok = true } → Puts (good_answer P id codes) before after 0 n
-      → Answered (answer_to P) s before after (record { done = true; end = t + 1 + e; length = n })
+      → Answered (answer_to P) s before after (record { end = t + 1 + e; length = n })
   unfolding lf
   answered P {n = n} r d x =
       let first : index_of lf s ≡ t + 1 + e =

@@ -3,16 +3,16 @@ use Rattle.std.specs.Prelude.{Bool, not, ◌||◌, List, [], ◌∷◌, ◌++◌
 use Rattle.lists.specs.Tests.{pick}
 use Rattle.lists.specs.Rows.{first}
 use Rattle.characters.specs.Characters.{kind_letter}
-use Rattle.characters.specs.declared.Kind.{Kind}
-use Rattle.characters.specs.declared.Kind.TheVariants.{Hiragana, Katakana, Kanji, Sign}
+use Rattle.characters.specs.Kinds.{Kind}
+use Rattle.characters.specs.Kinds.{Hiragana, Katakana, Kanji, Sign}
 use Rattle.normal.specs.Normal.{normal_form}
 use Rattle.rules.specs.Labels.{labels}
 use Rattle.rules.specs.Permits.{Permits, is_empty}
 use Rattle.rules.specs.Kinds.{no_kinds}
 use Rattle.rules.specs.Rules.{verdict}
 use Rattle.rules.specs.declared.Kinds.{Kinds}
-use Rattle.rules.specs.declared.Class.{Class}
-use Rattle.rules.specs.declared.Class.TheVariants.{None, General, Prefecture}
+use Rattle.rules.specs.Verdicts.{Class}
+use Rattle.rules.specs.Verdicts.{None, General, Prefecture}
 use Rattle.ascii.specs.Ascii.{ascii_form}
 use Rattle.names.specs.Calls.{ascii_rows, kinds_said}
 use Rattle.utf8.specs.Utf8.{decoded}

@@ -1,12 +1,11 @@
 -- What the calls for a line answer, and what they leave in the buffer that is lent to them.
-use Rattle.std.specs.Prelude.{false, not, ◌&&◌, ◌||◌, List, [], ◌∷◌, ◌++◌, ◌≡◌, ℕ, leb, length, take}
+use Rattle.std.specs.Prelude.{Bool, true, false, not, Option, None, Some, ◌&&◌, ◌||◌, List, [], ◌∷◌, ◌++◌, ◌≡◌, ℕ, leb, length, take}
 use Rattle.lists.specs.Tests.{pick, any_of, index_of}
 use Rattle.lists.specs.Front.{Puts}
 use Rattle.rules.specs.Permits.{Permits}
-use Rattle.rules.specs.declared.Class.{Class}
+use Rattle.rules.specs.Verdicts.{Class}
 use Rattle.rules.specs.declared.Kinds.{Kinds}
-use Rattle.answer.specs.declared.Next.{Next}
-use Rattle.answer.specs.declared.Wrote.{Wrote}
+use Rattle.answer.specs.declared.AnsweredLine.{AnsweredLine}
 use Rattle.utf8.specs.Utf8.{decoded}
 use Rattle.lines.specs.Lines.{lf}
 use Rattle.lines.specs.Fields.{good_id}
@@ -16,14 +15,33 @@ use Rattle.answer.specs.Answer.{decimal, letter, kind_field, bad_answer, good_an
 abbrev pub most : ℕ
 most = 256
 
+-- whether there was room for the longest answer, and how many bytes were written
+pub record Wrote : Type 0 where
+  pub done : Bool
+  pub length : ℕ
+
+abbrev pub wrote_told : Option ℕ → Wrote
+wrote_told None = record { done = false; length = 0 }
+wrote_told (Some n) = record { done = true; length = n }
+
 -- with room for the longest answer xs is written, and nothing without
 pub record Writes (xs before after : List ℕ) (r : Wrote) : Type 0 where
   pub done : r.done ≡ leb most (length before)
   pub text : Puts (pick (leb most (length before)) xs []) before after 0 r.length
 
+-- whether a line was answered, where its LF is, and how many bytes were written
+pub record Next : Type 0 where
+  pub done : Bool
+  pub end : ℕ
+  pub length : ℕ
+
 -- no line was answered
 abbrev pub no_line : Next
 no_line = record { done = false; end = 0; length = 0 }
+
+abbrev pub next_told : Option AnsweredLine → Next
+next_told None = no_line
+next_told (Some line) = record { done = true; end = line.end; length = line.length }
 
 -- with room for the longest answer the first line of s is answered, where it ends in s, and nothing is done otherwise
 pub record AnswersFirst (answer : List ℕ → List ℕ) (s before after : List ℕ) (r : Next) : Type 0 where

@@ -5,20 +5,24 @@
 
 mod usual;
 
-ghost use Rattle.std.specs.Prelude.{◌≡◌, [], ◌∷◌, ◌+◌, ◌≤◌, ◌<◌, ◌%◌, min, length};
+ghost use Rattle.std.specs.Prelude.{◌≡◌, [], ◌∷◌, ◌+◌, ◌≤◌, ◌<◌, ◌%◌, length};
 ghost use Rattle.lists.specs.Tests.{pick};
 ghost use Rattle.lists.specs.Front.{Puts};
+ghost use Rattle.refusals.specs.Refusals.{number_of};
 ghost use Rattle.rules.specs.Editions.{today_with};
+ghost use Rattle.rules.specs.Verdicts.{class_told};
 ghost use Rattle.answer.specs.Answer.{decimal, letter, kind_field, refused_answer, bad_answer, good_answer, answer_to};
-ghost use Rattle.answer.specs.Answers.{Writes, no_line, AnswersFirst, front_of, before_form, after_form, fields_answer};
+ghost use Rattle.answer.specs.Answers.{Writes, wrote_told, AnswersFirst, next_told, front_of, before_form, after_form, fields_answer};
 
 use crate::usual::usual_line;
-use lines::{Parts, TAB, line_end};
+use characters::Edition;
+use lines::{TAB, line_end};
+use refusals::{Refusal, Refused};
 use rules::{Class, Kinds};
 
-const LF: u8 = 0x0A;
+const LF: u8 = b'\n';
 
-const HYPHEN: u8 = 0x2D;
+const HYPHEN: u8 = b'-';
 
 // A line of more bytes is refused.
 pub const LONGEST_LINE: usize = 1024;
@@ -26,10 +30,10 @@ pub const LONGEST_LINE: usize = 1024;
 // Room for the longest answer.
 pub const MOST: usize = 256;
 
-// Whether there was room for the longest answer, and how many bytes were written.
+// Where the LF of a line that was answered is, and how many bytes were written.
 #[derive(Clone, Copy)]
-pub struct Wrote {
-    pub done: bool,
+pub struct AnsweredLine {
+    pub end: usize,
     pub length: usize,
 }
 
@@ -38,12 +42,9 @@ fn put(out: &mut [u8], n: usize, s: &[u8]) -> usize
     requires { n + length s.now ≤ length out.old }
     ensures { Puts s.now out.old out.new n result }
 {
-    let mut i = 0;
-    while i < s.len() {
-        out[n + i] = s[i];
-        i += 1;
-    }
-    n + i
+    let end = n + s.len();
+    out[n..end].copy_from_slice(s);
+    end
 }
 
 fn put_byte(out: &mut [u8], n: usize, b: u8) -> usize
@@ -59,8 +60,7 @@ fn put_digit(out: &mut [u8], n: usize, x: usize) -> usize
     requires { n < length out.old }
     ensures { Puts ((0x30 + x % 10) ∷ []) out.old out.new n result }
 {
-    let digit = x % 10;
-    put_byte(out, n, 0x30 + digit as u8)
+    put_byte(out, n, b'0' + (x % 10) as u8)
 }
 
 // Puts a number of at most three digits.
@@ -68,26 +68,27 @@ fn put_decimal(out: &mut [u8], n: usize, x: usize) -> usize
     requires { n + 3 ≤ length out.old }
     ensures { Puts (decimal x) out.old out.new n result }
 {
-    if x < 10 {
-        return put_digit(out, n, x);
+    match x {
+        0..=9 => put_digit(out, n, x),
+        10..=99 => {
+            let a = put_digit(out, n, x / 10);
+            put_digit(out, a, x)
+        }
+        _ => {
+            let a = put_digit(out, n, x / 100);
+            let b = put_digit(out, a, x / 10);
+            put_digit(out, b, x)
+        }
     }
-    let tens = x / 10;
-    if tens < 10 {
-        let a = put_digit(out, n, tens);
-        return put_digit(out, a, x);
-    }
-    let a = put_digit(out, n, tens / 10);
-    let b = put_digit(out, a, tens);
-    put_digit(out, b, x)
 }
 
+#[tactic(auto, unfolding(crate::specs::Answer::letter))]
 fn class_letter(class: Class) -> u8
-    ensures { result ≡ letter class }
+    ensures { result ≡ letter (class_told class) }
 {
     match class {
-        Class::General => 0x47,
-        Class::Prefecture => 0x50,
-        Class::None => 0x2D,
+        Class::General => b'G',
+        Class::Prefecture => b'P',
     }
 }
 
@@ -108,21 +109,22 @@ fn put_front(id: &[u8], number: usize, place: usize, out: &mut [u8]) -> usize
 const REFUSED: [u8; 6] = [HYPHEN, TAB, HYPHEN, TAB, HYPHEN, LF];
 
 // Puts the answer to a refusal at the start of out.
-fn put_refused(id: &[u8], number: usize, place: usize, out: &mut [u8]) -> usize
+fn put_refused(id: &[u8], refused: Refused, out: &mut [u8]) -> usize
     requires { length id.now + 15 ≤ length out.old }
-    ensures { Puts (refused_answer id.now number place) out.old out.new 0 result }
+    ensures { Puts (refused_answer id.now (number_of refused.why) refused.place) out.old out.new 0 result }
 {
-    let a = put_front(id, number, place, out);
+    let number = usize::from(u8::from(refused.why));
+    let a = put_front(id, number, refused.place, out);
     put(out, a, &REFUSED)
 }
 
 // Puts the answer to a bad line.
+#[tactic(auto, unfolding(crate::specs::Answer::bad_answer))]
 fn put_bad(out: &mut [u8]) -> usize
     requires { 256 ≤ length out.old }
     ensures { Puts bad_answer out.old out.new 0 result }
 {
-    let none = [HYPHEN];
-    put_refused(&none, 16, 0, out)
+    put_refused(&[HYPHEN], Refusal::BadLine.at(0), out)
 }
 
 // Puts a kind's letter where the kind is found.
@@ -130,10 +132,7 @@ fn put_found(out: &mut [u8], n: usize, found: bool, letter: u8) -> usize
     requires { n < length out.old }
     ensures { Puts (pick found (letter ∷ []) []) out.old out.new n result }
 {
-    if found {
-        return put_byte(out, n, letter);
-    }
-    n
+    if found { put_byte(out, n, letter) } else { n }
 }
 
 // Puts the letters of the kinds that are found, or a hyphen.
@@ -141,20 +140,17 @@ fn put_kinds(out: &mut [u8], n: usize, kinds: Kinds) -> usize
     requires { n + 4 ≤ length out.old }
     ensures { Puts (kind_field kinds) out.old out.new n result }
 {
-    let a = put_found(out, n, kinds.hiragana, 0x48);
-    let b = put_found(out, a, kinds.katakana, 0x4B);
-    let c = put_found(out, b, kinds.kanji, 0x4A);
-    let d = put_found(out, c, kinds.sign, 0x53);
-    if d == n {
-        return put_byte(out, n, HYPHEN);
-    }
-    d
+    let a = put_found(out, n, kinds.hiragana, b'H');
+    let b = put_found(out, a, kinds.katakana, b'K');
+    let c = put_found(out, b, kinds.kanji, b'J');
+    let d = put_found(out, c, kinds.sign, b'S');
+    if d == n { put_byte(out, n, HYPHEN) } else { d }
 }
 
 // Puts what stands before the ASCII form of an accepted name, at the start of out.
 fn put_accepted(id: &[u8], class: Class, out: &mut [u8]) -> usize
     requires { length id.now + 11 ≤ length out.old }
-    ensures { Puts (before_form id.now class) out.old out.new 0 result }
+    ensures { Puts (before_form id.now (class_told class)) out.old out.new 0 result }
 {
     let letter = class_letter(class);
     let a = put_front(id, 0, 0, out);
@@ -177,23 +173,19 @@ pub(crate) fn put_text(kanji: &[u32], id: &[u8], text: &[u32], out: &mut [u8]) -
     requires { (length id.now ≤ 32) × (256 ≤ length out.old) }
     ensures { Puts (good_answer (today_with kanji.now) id.now text.now) out.old out.new 0 result }
 {
+    let edition = Edition {
+        kanji,
+        number: rules::IN_FORCE,
+    };
     let start = id.len() + 7;
     let end = start + 192;
-    let form = names::to_ascii_with(kanji, rules::IN_FORCE, text, &mut out[start..end]);
-    let number = form.number as usize;
-    if number != 0 {
-        return put_refused(id, number, form.place, out);
+    match names::to_ascii_with(&edition, text, &mut out[start..end]) {
+        Ok(name) => {
+            let a = put_accepted(id, name.class, out);
+            put_end(out, a + name.length, name.kinds)
+        }
+        Err(refused) => put_refused(id, refused, out),
     }
-    let class = form.class;
-    let a = put_accepted(id, class, out);
-    put_end(out, a + form.length, form.kinds)
-}
-
-// A name is lent up to 257 code points: with more than 256 the rules look no further.
-fn lent(count: usize) -> usize
-    ensures { result ≡ min count 257 }
-{
-    if count < 257 { count } else { 257 }
 }
 
 // Puts the answer to a line with these two fields.
@@ -204,16 +196,16 @@ fn put_fields(kanji: &[u32], id: &[u8], name: &[u8], out: &mut [u8]) -> usize
     if !lines::is_id(id) {
         return put_bad(out);
     }
+    // With more than 256 code points the rules look no further.
     let mut text = [0u32; 257];
-    let decoded = utf8::decode(name, &mut text);
-    if !decoded.ok {
-        return put_bad(out);
+    match utf8::decode(name, &mut text) {
+        Some(count) => put_text(kanji, id, &text[..count.min(257)], out),
+        None => put_bad(out),
     }
-    let n = lent(decoded.count);
-    put_text(kanji, id, &text[0..n], out)
 }
 
 // Puts the answer to a line.
+#[tactic(auto, using(crate::proofs::Answering::tab_inside))]
 fn put_answer(kanji: &[u32], line: &[u8], out: &mut [u8]) -> usize
     requires { 256 ≤ length out.old }
     ensures { Puts (answer_to (today_with kanji.now) line.now) out.old out.new 0 result }
@@ -221,71 +213,36 @@ fn put_answer(kanji: &[u32], line: &[u8], out: &mut [u8]) -> usize
     if LONGEST_LINE < line.len() {
         return put_bad(out);
     }
-    let parts = lines::split(line);
-    match parts {
-        Parts::Two(tab) => {
-            let start = tab + 1;
-            let end = line.len();
-            put_fields(kanji, &line[0..tab], &line[start..end], out)
-        }
-        Parts::Other => put_bad(out),
+    match lines::split(line) {
+        Some(tab) => put_fields(kanji, &line[..tab], &line[tab + 1..], out),
+        None => put_bad(out),
     }
 }
 
-// The answer to a line, at the start of out.
-pub fn answer_with(kanji: &[u32], line: &[u8], out: &mut [u8]) -> Wrote
-    ensures { Writes (answer_to (today_with kanji.now) line.now) out.old out.new result }
+// The answer to a line, at the start of out: how many bytes it has. Without room for the longest nothing is written, and no number told.
+pub fn answer_with(kanji: &[u32], line: &[u8], out: &mut [u8]) -> Option<usize>
+    ensures { Writes (answer_to (today_with kanji.now) line.now) out.old out.new (wrote_told result) }
 {
     if out.len() < MOST {
-        return Wrote {
-            done: false,
-            length: 0,
-        };
+        return None;
     }
-    Wrote {
-        done: true,
-        length: put_answer(kanji, line, out),
-    }
-}
-
-// Whether a line was answered, where its LF is, and how many bytes were written.
-#[derive(Clone, Copy)]
-pub struct Next {
-    pub done: bool,
-    pub end: usize,
-    pub length: usize,
-}
-
-// No line was answered.
-pub(crate) fn no_line() -> Next
-    ensures { result ≡ no_line }
-{
-    Next {
-        done: false,
-        end: 0,
-        length: 0,
-    }
+    Some(put_answer(kanji, line, out))
 }
 
 // The answer to the first line of a piece, at the start of out, where there is room and the line ends in the piece.
-pub fn next_with(kanji: &[u32], piece: &[u8], out: &mut [u8]) -> Next
-    ensures { AnswersFirst (answer_to (today_with kanji.now)) piece.now out.old out.new result }
+pub fn next_with(kanji: &[u32], piece: &[u8], out: &mut [u8]) -> Option<AnsweredLine>
+    ensures { AnswersFirst (answer_to (today_with kanji.now)) piece.now out.old out.new (next_told result) }
 {
     if out.len() < MOST {
-        return no_line();
+        return None;
     }
-    let usual = usual_line(kanji, piece, out);
-    if usual.done {
-        return usual;
+    if let Some(line) = usual_line(kanji, piece, out) {
+        return Some(line);
     }
     let end = line_end(piece, 0);
     if piece.len() <= end {
-        return no_line();
+        return None;
     }
-    let length = put_answer(kanji, &piece[0..end], out);
-    Next {
-        done: true,
-        end,
-        length,
-    }
+    let length = put_answer(kanji, &piece[..end], out);
+    Some(AnsweredLine { end, length })
 }

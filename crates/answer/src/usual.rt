@@ -1,130 +1,99 @@
 // The usual line: an id, a tab, and a short name of ASCII and of three-byte code points, up to an LF in the same piece. It is answered
 // straight from the input, in one go. What is said of it is defined in specs/: Usual.
-ghost use Rattle.std.specs.Prelude.{◌≡◌, true, ◌≤◌, ◌<◌, min, length};
+ghost use Rattle.std.specs.Prelude.{◌≡◌, ◌+◌, ◌*◌, ◌%◌, ◌≤◌, length, IfSome};
 ghost use Rattle.lists.specs.Tests.{within};
 ghost use Rattle.rules.specs.Editions.{today_with};
 ghost use Rattle.answer.specs.Answer.{answer_to};
-ghost use Rattle.answer.specs.Usual.{leads_three, Reads, MayAnswer};
+ghost use Rattle.answer.specs.Usual.{leads_three, FirstCode, Reads, MayAnswer};
 
-use crate::{Next, no_line, put_text};
+use crate::{AnsweredLine, put_text};
 use lines::{field_at, is_id};
 
-fn as_number(b: u8) -> u32
-    ensures { (result ≡ b) × (result < 256) }
-{
-    b as u32
-}
-
-fn in_range(a: u32, b: u32, c: u32) -> bool
-    ensures { result ≡ within a b c }
-{
-    a <= c && c <= b
-}
-
-// Whether a name was read up to an LF, how many code points it has, and where the LF is.
-#[derive(Drop)]
+// How many code points a name has, and where the LF is that ends it.
+#[derive(Clone, Copy)]
 struct Read {
-    pub ok: bool,
-    pub count: usize,
-    pub end: usize,
-}
-
-fn said(ok: bool, count: usize, end: usize) -> Read
-    ensures { (result.ok ≡ ok) × (result.count ≡ count) × (result.end ≡ end) }
-{
-    Read { ok, count, end }
-}
-
-// No name is read further.
-fn first_64(n: usize) -> usize
-    ensures { result ≡ min n 64 }
-{
-    if n < 64 { n } else { 64 }
+    count: usize,
+    end: usize,
 }
 
 // The first byte of three for a value of 1000 to CFFF or E000 to FFFF: none is overlong, none a surrogate.
-fn is_first(b: u32) -> bool
+#[tactic(auto, using(lists::proofs::Laws::inside, lists::proofs::Laws::outside), unfolding(crate::specs::Usual::leads_three))]
+fn is_first(b: u8) -> bool
     ensures { result ≡ leads_three b }
 {
-    if b == 0xED {
-        return false;
-    }
-    in_range(0xE1, 0xEF, b)
+    matches!(b, 0xE1..=0xEC | 0xEE..=0xEF)
 }
 
-// Reads a name of ASCII and such values up to an LF: its code points go to the start of out. Of any other nothing is said.
-fn read_name(s: &[u8], out: &mut [u32]) -> Read
-    requires { 64 ≤ length out.old }
-    ensures { result.ok ≡ true → Reads s.now out.new result }
+// A byte that goes on a value.
+#[tactic(auto, using(lists::proofs::Laws::inside, lists::proofs::Laws::outside))]
+fn is_tail(b: u8) -> bool
+    ensures { result ≡ within 0x80 0xBF b }
 {
-    let end = first_64(s.len());
-    let mut n = 0;
-    let mut i = 0;
-    while i < end {
-        let a = as_number(s[i]);
-        if a < 0x80 {
-            if a < 0x20 {
-                return said(a == 0x0A, n, i);
-            }
-            out[n] = a;
-            n += 1;
-            i += 1;
-        } else {
-            if !is_first(a) {
-                return said(false, n, i);
-            }
-            if end <= i + 2 {
-                return said(false, n, i);
-            }
-            let b = as_number(s[i + 1]);
-            let c = as_number(s[i + 2]);
-            if !in_range(0x80, 0xBF, b) {
-                return said(false, n, i);
-            }
-            if !in_range(0x80, 0xBF, c) {
-                return said(false, n, i);
-            }
-            out[n] = (a % 16) * 4096 + (b % 64) * 64 + c % 64;
-            n += 1;
-            i += 3;
+    matches!(b, 0x80..=0xBF)
+}
+
+// The value of three bytes.
+fn value(a: u8, b: u8, c: u8) -> u32
+    ensures { result ≡ a % 16 * 4096 + b % 64 * 64 + c % 64 }
+{
+    u32::from(a % 16) * 4096 + u32::from(b % 64) * 64 + u32::from(c % 64)
+}
+
+// The first code point, of ASCII and no control character or one of such values, and what follows it.
+fn first_code(s: &[u8]) -> Option<(u32, &[u8])>
+    ensures { IfSome result (λ r. FirstCode s.now r.0 r.1.now) }
+{
+    if let [a @ 0x20..=0x7F, rest @ ..] = s {
+        return Some((u32::from(*a), rest));
+    }
+    match s {
+        [a, b, c, rest @ ..] if is_first(*a) && is_tail(*b) && is_tail(*c) => {
+            Some((value(*a, *b, *c), rest))
         }
+        _ => None,
     }
-    said(false, n, i)
 }
 
-// An id and its tab are in the first 33 bytes, so no tab is looked for past these.
-fn id_reach(n: usize) -> usize
-    ensures { result ≡ min n 33 }
+// Reads a name of such code points up to an LF: they go to the start of out. Of any other nothing is said, and none is read past 64 bytes.
+fn read_name(s: &[u8], out: &mut [u32]) -> Option<Read>
+    requires { 64 ≤ length out.old }
+    ensures { IfSome result (λ r. Reads s.now out.new r) }
 {
-    if n < 33 { n } else { 33 }
+    let reach = s.len().min(64);
+    let mut rest = &s[..reach];
+    let mut count = 0;
+    while let [b, ..] = rest {
+        if *b == b'\n' {
+            let end = reach - rest.len();
+            return Some(Read { count, end });
+        }
+        let (code, after) = first_code(rest)?;
+        out[count] = code;
+        count += 1;
+        rest = after;
+    }
+    None
 }
 
 // Answers the first line of a piece, straight from it, where it is a usual one that ends there. Of another nothing is said, and nothing
 // is written for it.
-pub(crate) fn usual_line(kanji: &[u32], piece: &[u8], out: &mut [u8]) -> Next
+pub(crate) fn usual_line(kanji: &[u32], piece: &[u8], out: &mut [u8]) -> Option<AnsweredLine>
     requires { 256 ≤ length out.old }
     ensures { MayAnswer (answer_to (today_with kanji.now)) piece.now out.old out.new result }
 {
-    let reach = id_reach(piece.len());
-    let id = field_at(&piece[0..reach], 0);
+    // An id and its tab are in the first 33 bytes, so no tab is looked for past these.
+    let reach = piece.len().min(33);
+    let id = field_at(&piece[..reach], 0);
     let tab = id.end;
-    if reach <= tab {
-        return no_line();
-    }
-    if !is_id(&piece[0..tab]) {
-        return no_line();
+    if reach <= tab || !is_id(&piece[..tab]) {
+        return None;
     }
     let mut text = [0u32; 64];
     let start = id.next;
-    let read = read_name(&piece[start..], &mut text);
-    if !read.ok {
-        return no_line();
-    }
-    let count = read.count;
-    let length = put_text(kanji, &piece[0..tab], &text[0..count], out);
-    Next {
-        done: true,
+    let read = read_name(&piece[start..], &mut text)?;
+    let length = put_text(kanji, &piece[..tab], &text[..read.count], out);
+    Some(AnsweredLine {
         end: start + read.end,
         length,
-    }
+    })
 }

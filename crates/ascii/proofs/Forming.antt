@@ -13,14 +13,13 @@ use borrow.Author.Tests.{lt-ltb, le-ltb, leb-true, leb-false}
 use Rattle.lists.specs.Tests.{pick, any_of}
 use Rattle.lists.specs.Front.{written}
 use Rattle.lists.specs.Rows.{first, given}
-use Rattle.lists.specs.declared.Answer.{Answer}
+use Rattle.lists.specs.Rows.{Answer}
 use Rattle.lists.proofs.Laws.{neither}
 use Rattle.lists.proofs.Tables.{clear, hit, passed_over, gives_no, gives_yes}
 use Rattle.punycode.specs.Punycode.{ace, encodable}
 use Rattle.punycode.specs.Calls.{coder_number, coder_writes, Encodes}
-use Rattle.punycode.specs.declared.Encoded.{Encoded}
+use Rattle.refusals.specs.Refusals.{Filled}
 use Rattle.ascii.specs.Labels.{high, label_form, form_rows, label_formed, Forms}
-use Rattle.ascii.specs.declared.LabelForm.{LabelForm}
 
 -- ---- a label of code points below 80
 
@@ -60,7 +59,7 @@ module _ (l before : List ℕ) where
     unfolding given coder_writes
     writes_are = rw (rows_say, form_is)
 
-    pub by_coder : {after : List ℕ} {k : Encoded} → Encodes l before after k
+    pub by_coder : {after : List ℕ} {k : Filled} → Encodes l before after k
         → Forms l before after (record { number = k.number; place = k.place; length = k.length })
     by_coder E =
         record { gives = record { result = rw (writes_are, rows_say, E.answer); buffer = E.buffer ∙ ap (λ (xs : List ℕ). written xs before) (sym writes_are) } }
@@ -70,12 +69,12 @@ module _ (l before : List ℕ) where
     unfolding label_form
     low_form = rw w
 
-    pub no_room : {r : LabelForm} → length before < 63 → r ≡ record { number = 1; place = 0; length = 0 } → Forms l before before r
+    pub no_room : {r : Filled} → length before < 63 → r ≡ record { number = 1; place = 0; length = 0 } → Forms l before before r
     unfolding form_rows
     no_room h q = record { gives = gives_no label_formed _ _ before (hit 1 _ 0 _ (lt-ltb (length before) 63 h)) (λ z. omega arith) q }
 
     module _ (h : 63 ≤ length before) where
-      pub too_long : {r : LabelForm} → 63 < length l → r ≡ record { number = 14; place = 0; length = 0 } → Forms l before before r
+      pub too_long : {r : Filled} → 63 < length l → r ≡ record { number = 14; place = 0; length = 0 } → Forms l before before r
       unfolding form_rows
       too_long g q =
           record {

@@ -12,7 +12,7 @@ use borrow.Author.Tests.{le-leb, lt-leb, leb-true, le-ltb, eqb-true, not-true, n
 use Rattle.lists.specs.Tests.{pick, all_of, any_of}
 use Rattle.lists.specs.Front.{written}
 use Rattle.lists.specs.Rows.{first}
-use Rattle.lists.specs.declared.Answer.{Answer}
+use Rattle.lists.specs.Rows.{Answer}
 use Rattle.lists.proofs.Laws.{both, all_not, all_but, any_weaker}
 use Rattle.lists.proofs.Tables.{clear, gave_all, gave_none}
 use Rattle.punycode.specs.Punycode.{ace}
@@ -23,7 +23,7 @@ use Rattle.rules.specs.Rules.{is_japanese}
 use Rattle.rules.proofs.Sound.{ascii_range}
 use Rattle.ascii.specs.Labels.{high, label_form, form_rows, label_formed, Forms}
 use Rattle.ascii.specs.Ascii.{ascii_label, uncoded, writable}
-use Rattle.ascii.specs.declared.LabelForm.{LabelForm}
+use Rattle.refusals.specs.Refusals.{Filled}
 use Rattle.ascii.proofs.Coded.{japanese_high}
 use Rattle.ascii.proofs.Forming.{rows_say, low_form}
 
@@ -80,7 +80,7 @@ not_not : (b : Bool) → b ≡ not (not b)
 not_not true = refl
 not_not false = refl
 
-module _ (P : Permits) (stretch : InStretch P) {l before after : List ℕ} {r : LabelForm} (F : Forms l before after r) (room : 63 ≤ length before)
+module _ (P : Permits) (stretch : InStretch P) {l before after : List ℕ} {r : Filled} (F : Forms l before after r) (room : 63 ≤ length before)
     (w : writable P l ≡ true) where
   high_here : any_of high l ≡ is_japanese P l
   high_here = high_is P stretch l (λ p. (ascii_fits P l p w).0)
@@ -90,7 +90,7 @@ module _ (P : Permits) (stretch : InStretch P) {l before after : List ℕ} {r : 
   form_is = rw high_here
 
   number_is : r.number ≡ (first (form_rows l (length before))).number
-  number_is = ap (λ (x : LabelForm). x.number) F.gives.result
+  number_is = ap (λ (x : Filled). x.number) F.gives.result
 
   rows_number : eqb (first (form_rows l (length before))).number 0 ≡ not (uncoded P l)
   unfolding uncoded form_rows
@@ -112,7 +112,7 @@ module _ (P : Permits) (stretch : InStretch P) {l before after : List ℕ} {r : 
   pub gave : r.number ≡ 0 → (r.length ≡ length (ascii_label P l)) × (after ≡ written (ascii_label P l) before)
   gave z =
       let g = gave_all label_formed _ _ before F.gives (sym number_is ∙ z) in
-      (ap (λ (x : LabelForm). x.length) g.1 ∙ ap length form_is, g.0 ∙ ap (λ (xs : List ℕ). written xs before) form_is)
+      (ap (λ (x : Filled). x.length) g.1 ∙ ap length form_is, g.0 ∙ ap (λ (xs : List ℕ). written xs before) form_is)
 
   pub kept : (r.number ≡ 0 → ⊥) → after ≡ before
   kept h = (gave_none label_formed _ _ before F.gives (λ z. h (number_is ∙ z))).0

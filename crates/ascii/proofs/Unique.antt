@@ -5,7 +5,7 @@ use mathlib.Core.List.{List}
 use Prim.Native.Nat.{ℕ}
 use Rattle.lists.proofs.Unique.{gives_once}
 use Rattle.ascii.specs.Labels.{Forms}
-use Rattle.ascii.specs.declared.LabelForm.{LabelForm}
+use Rattle.refusals.specs.Refusals.{Filled}
 
-pub unique : {l before after after' : List ℕ} {r s : LabelForm} → Forms l before after r → Forms l before after' s → (r ≡ s) × (after ≡ after')
+pub unique : {l before after after' : List ℕ} {r s : Filled} → Forms l before after r → Forms l before after' s → (r ≡ s) × (after ≡ after')
 unique p q = gives_once p.gives q.gives

@@ -3,10 +3,10 @@
 use Rattle.std.specs.Prelude.{Bool, not, ◌&&◌, List, [], ◌∷◌, ℕ, leb, ltb, length}
 use Rattle.lists.specs.Tests.{pick, any_of}
 use Rattle.lists.specs.Rows.{Row, row, Gives}
-use Rattle.lists.specs.declared.Answer.{Answer}
+use Rattle.lists.specs.Rows.{Answer}
 use Rattle.punycode.specs.Punycode.{ace, encodable}
 use Rattle.punycode.specs.Calls.{label_room}
-use Rattle.ascii.specs.declared.LabelForm.{LabelForm}
+use Rattle.refusals.specs.Refusals.{Filled}
 
 -- past ASCII
 unfoldable pub high : ℕ → Bool
@@ -24,8 +24,8 @@ form_rows l room =
     row 14 (ltb label_room (length (label_form l))) 0 ∷
     []
 
-abbrev pub label_formed : Answer → ℕ → LabelForm
+abbrev pub label_formed : Answer → ℕ → Filled
 label_formed a n = record { number = a.number; place = a.place; length = n }
 
-pub record Forms (l before after : List ℕ) (r : LabelForm) : Type 0 where
+pub record Forms (l before after : List ℕ) (r : Filled) : Type 0 where
   pub gives : Gives label_formed (form_rows l (length before)) (label_form l) before after r

@@ -7,37 +7,18 @@ ghost use Rattle.std.specs.Prelude.{◌≡◌, false, ◌≤◌, length};
 ghost use Rattle.lists.specs.Tests.{any_of};
 ghost use Rattle.lists.specs.Front.{written};
 ghost use Rattle.ascii.specs.Labels.{high, Forms};
+ghost use Rattle.refusals.specs.Refusals.{filled};
 
-// The numbers that the call answers (document 01), besides 13, which is the coder's.
-const ACCEPTED: u8 = 0;
-
-const NO_ROOM: u8 = 1;
-
-const OVER_63: u8 = 14;
+use refusals::{Refusal, Refused};
 
 // The longest label in octets, and the room that its form asks for.
 const MOST: usize = 63;
-
-// What the call for a label's ASCII form answers.
-#[derive(Clone, Copy)]
-pub struct LabelForm {
-    pub number: u8,
-    pub place: usize,
-    pub length: usize,
-}
 
 // Does it hold a code point of 80 or more? Of what may stand in a label those are the Japanese characters.
 fn any_high(label: &[u32]) -> bool
     ensures { result ≡ any_of high label.now }
 {
-    let mut i = 0;
-    while i < label.len() {
-        if 0x80 <= label[i] {
-            return true;
-        }
-        i += 1;
-    }
-    false
+    label.iter().any(|c| 0x80 <= *c)
 }
 
 // Puts a label of code points below 80 at the buffer's start.
@@ -45,46 +26,25 @@ fn put_low(label: &[u32], out: &mut [u8])
     requires { (any_of high label.now ≡ false) × (length label.now ≤ length out.old) }
     ensures { out.new ≡ written label.now out.old }
 {
-    let mut i = 0;
-    while i < label.len() {
-        out[i] = label[i] as u8;
-        i += 1;
-    }
-}
-
-fn refused(number: u8) -> LabelForm
-    ensures { result ≡ record { number = number; place = 0; length = 0 } }
-{
-    LabelForm {
-        number,
-        place: 0,
-        length: 0,
+    for (i, c) in label.iter().enumerate() {
+        out[i] = *c as u8;
     }
 }
 
 // The ASCII form of a label: encoded where it holds a code point of 80 or more, else as it is.
-pub fn label_form(label: &[u32], out: &mut [u8]) -> LabelForm
-    ensures { Forms label.now out.old out.new result }
+pub fn label_form(label: &[u32], out: &mut [u8]) -> Result<usize, Refused>
+    ensures { Forms label.now out.old out.new (filled result) }
 {
     if any_high(label) {
-        let coded = punycode::encode(label, out);
-        return LabelForm {
-            number: coded.number,
-            place: coded.place,
-            length: coded.length,
-        };
+        return punycode::encode(label, out);
     }
     if out.len() < MOST {
-        return refused(NO_ROOM);
+        return Err(Refusal::NoRoom.at(0));
     }
     let length = label.len();
     if MOST < length {
-        return refused(OVER_63);
+        return Err(Refusal::Over63.at(0));
     }
     put_low(label, out);
-    LabelForm {
-        number: ACCEPTED,
-        place: 0,
-        length,
-    }
+    Ok(length)
 }

@@ -4,6 +4,8 @@
 use mathlib.Core.Path.{◌≡◌, refl, sym, ap, ◌∙◌}
 use mathlib.Core.Bool.{Bool}
 use mathlib.Core.List.{List, [], ◌++◌, append-nil}
+use Rattle.std.specs.Bool.{then_some}
+use Rattle.std.specs.Prelude.{Option, None, Some}
 use Prim.Native.Nat.{ℕ, suc, ◌+◌, ◌-◌, ◌≤◌, ◌<◌}
 use native.Mathlib.Omega.{arith}
 use lib.Dec.{leb}
@@ -15,13 +17,12 @@ use Rattle.lists.specs.Front.{Puts}
 use Rattle.lists.proofs.Laws.{by_test}
 use Rattle.lists.proofs.Pieces.{then, puts_length, puts_once, nothing}
 use Rattle.lines.specs.Lines.{lf}
-use Rattle.answer.specs.declared.Wrote.{Wrote}
 use Rattle.batch.specs.declared.stream.Fed.{Fed}
 use Rattle.batch.specs.declared.stream.Line.{Line}
 use Rattle.batch.specs.declared.stream.Scanned.{Scanned}
 use Rattle.batch.specs.Stream.{fresh, pushed_all, after, closed, wrote, ended, used}
-use Rattle.answer.specs.Answers.{most, Writes}
-use Rattle.batch.specs.Feed.{Scans, Feeds, rest_of, Finishes}
+use Rattle.answer.specs.Answers.{most, wrote_told, Writes}
+use Rattle.batch.specs.Feed.{Scans, Feeds, rest_of, Finishes, finish_told}
 use Rattle.batch.proofs.AnyPieces.{holds_none, holds_fresh, after_append, wrote_append, closed_all}
 use Rattle.batch.proofs.Cuts.{Alike, wrote_alike, used_alike, after_alike, line_after, line_wrote, line_used, none_after, none_wrote, none_used}
 use Rattle.answer.proofs.Parts.{tail_part, lent}
@@ -29,15 +30,15 @@ use Rattle.batch.proofs.Turns.{in_full, used_open, used_shut}
 
 -- ---- rest
 
-module _ (s : List ℕ) (at o : ℕ) {room : ℕ} {line : Line} where
-  pub rest_full : room < most → line ≡ fresh → record { used = at; wrote = o; line = line } ≡ rest_of s at o room
-  unfolding rest_of
-  rest_full h e = rw (lt-leb _ _ h, e)
+-- from `at` on the bytes up to where the piece is used are carried on: none without room, and otherwise all that are left
+module _ (s : List ℕ) (at o : ℕ) {room used : ℕ} {line kept : Line} (e : line ≡ fresh) (k : kept ≡ pushed_all line (take (used - at) (drop at s))) where
+  pub rest_full : room < most → used ≡ at → record { used = used; wrote = o; line = kept } ≡ rest_of s at o room
+  unfolding rest_of pushed_all
+  rest_full h u = let z : used - at ≡ 0 = omega arith in rw (lt-leb _ _ h, k, e, z, u)
 
-  pub rest_on : most ≤ room → line ≡ fresh → {kept : Line} → kept ≡ pushed_all line (take (length s - at) (drop at s))
-      → record { used = length s; wrote = o; line = kept } ≡ rest_of s at o room
+  pub rest_on : most ≤ room → used ≡ length s → record { used = used; wrote = o; line = kept } ≡ rest_of s at o room
   unfolding rest_of
-  rest_on h e k = rw (le-leb _ _ h, k, e, tail_part s at)
+  rest_on h u = rw (le-leb _ _ h, k, e, u, tail_part s at)
 
 module _ (answer : List ℕ → List ℕ) (bad : List ℕ) where
   -- ---- nothing is written
@@ -160,13 +161,10 @@ module _ {answer : List ℕ → List ℕ} {bad : List ℕ} (l : Line) (s : List 
       → {fed : Fed} → (t.at ≡ 0 → ⊥) → fed ≡ rest_of s t.at t.length (length out₁ - t.length) → Feeds answer bad l s out₀ out₁ fed
   lines_rest over g n h e = rw (e, puts_length c.text) (rests answer bad (straight answer bad over l g n c (omega arith)))
 
-module _ {answer : List ℕ → List ℕ} {bad : List ℕ} (l : Line) (s : List ℕ) {first : Line} {out₀ out₁ last : List ℕ} {e : ℕ} {a : Wrote} {t : Scanned}
+module _ {answer : List ℕ → List ℕ} {bad : List ℕ} (l : Line) (s : List ℕ) {first : Line} {out₀ out₁ last : List ℕ} {e n : ℕ} {t : Scanned}
     (room : most ≤ length out₀) (E : e ≡ 0 + index_of lf s) (g : e < length s)
-    (p : first ≡ pushed_all l (take (e - 0) s)) (w : Writes (closed answer bad first) out₀ out₁ a)
-    (c : Scans answer bad (take (length s - (e + 1)) (drop (e + 1) s)) (take (length out₁ - a.length) (drop a.length out₁)) last t) where
-  abbrev n : ℕ
-  n = a.length
-
+    (p : first ≡ pushed_all l (take e s)) (w : Writes (closed answer bad first) out₀ out₁ (wrote_told (Some n)))
+    (c : Scans answer bad (take (length s - (e + 1)) (drop (e + 1) s)) (take (length out₁ - n) (drop n out₁)) last t) where
   abbrev back_out : List ℕ
   back_out = take n out₁ ++ (last ++ drop (length out₁ - n) (drop n out₁))
 
@@ -174,19 +172,13 @@ module _ {answer : List ℕ → List ℕ} {bad : List ℕ} (l : Line) (s : List 
   h = omega arith
 
   closes : Puts (closed answer bad (pushed_all l (take (index_of lf s) s))) out₀ out₁ 0 n
-  closes = let z : e - 0 ≡ index_of lf s = omega arith in rw (p, z) at (in_full room w)
+  closes = let z : e ≡ index_of lf s = omega arith in rw (p, z) at (in_full w)
 
   scans : Scans answer bad (drop (suc (index_of lf s)) s) (take (length out₁ - n) (drop n out₁)) last t
   scans = let z : e + 1 ≡ suc (index_of lf s) = omega arith in rw z at (rw (tail_part s (e + 1)) at c)
 
   placed : Puts (wrote answer bad fresh (take t.at (drop (suc (index_of lf s)) s))) out₁ back_out n (n + t.length)
   placed = lent n (length out₁ - n) out₁ (omega (arith, closes.room, puts_length closes)) scans.text
-
-  pub o_fits : n + t.length ≤ length out₀
-  o_fits = omega (arith, placed.room, puts_length closes)
-
-  pub o_back : n + t.length ≤ length back_out
-  o_back = omega (arith, placed.room, puts_length placed)
 
   pub feeds_rest : {fed : Fed} → fed ≡ rest_of s (e + 1 + t.at) (n + t.length) (length back_out - (n + t.length)) → Feeds answer bad l s out₀ back_out fed
   feeds_rest q =
@@ -198,12 +190,16 @@ module _ {answer : List ℕ → List ℕ} {bad : List ℕ} (l : Line) (s : List 
 -- ---- the end of the input
 
 module _ (answer : List ℕ → List ℕ) (bad : List ℕ) (l : Line) (out : List ℕ) where
-  pub end_none : l.n ≡ 0 → Finishes answer bad l out out (record { done = leb most (length out); wrote = 0 })
+  pub end_none : l.n ≡ 0 → Finishes answer bad l out out (finish_told (then_some (leb most (length out)) 0))
   unfolding ended
   end_none e =
-      record { done = refl; text = rw (eq-eqb l.n 0 e) (by_test (λ (x : Bool). Puts (pick x [] []) out out 0 0) (leb most (length out)) (λ z. nothing) (λ z. nothing)) }
+      by_test (λ (x : Bool). leb most (length out) ≡ x → Finishes answer bad l out out (finish_told (then_some x 0))) (leb most (length out))
+      (λ z h. record { done = sym h; text = rw (h, eq-eqb l.n 0 e) nothing })
+      (λ z h. record { done = sym h; text = rw h nothing })
+      refl
 
-  pub end_last : {out' : List ℕ} {r : Wrote} → (l.n ≡ 0 → ⊥) → Writes (closed answer bad l) out out' r
-      → Finishes answer bad l out out' (record { done = r.done; wrote = r.length })
+  pub end_last : {out' : List ℕ} (r : Option ℕ) → (l.n ≡ 0 → ⊥) → Writes (closed answer bad l) out out' (wrote_told r)
+      → Finishes answer bad l out out' (finish_told r)
   unfolding ended
-  end_last e w = record { done = w.done; text = rw (ne_eqb l.n 0 e) w.text }
+  end_last None e w = record { done = w.done; text = rw (ne_eqb l.n 0 e) w.text }
+  end_last (Some n) e w = record { done = w.done; text = rw (ne_eqb l.n 0 e) w.text }

@@ -2,8 +2,9 @@
 -- sequence of calls and then a finish wrote the batch of all that was used, since each takes up where the last one stopped.
 -- Assumes nothing.
 use mathlib.Core.Path.{◌≡◌, refl, sym, ap, ◌∙◌}
-use mathlib.Core.Bool.{Bool, true}
+use mathlib.Core.Bool.{Bool, true, false≢true}
 use mathlib.Core.List.{List, [], ◌∷◌, ◌++◌}
+use Rattle.std.specs.Prelude.{Option, None, Some}
 use Prim.Native.Nat.{ℕ, suc, ◌-◌, ◌*◌, ◌≤◌, ◌<◌}
 use native.Mathlib.Omega.{arith}
 use lib.Dec.{leb}
@@ -18,17 +19,22 @@ use Rattle.rules.specs.Editions.{today, today_with}
 use Rattle.rules.proofs.Editions.{lending}
 use Rattle.answer.specs.Answers.{most}
 use Rattle.batch.specs.declared.stream.Fed.{Fed}
-use Rattle.batch.specs.declared.stream.Finished.{Finished}
 use Rattle.batch.specs.declared.stream.Line.{Line}
 use Rattle.answer.specs.Answer.{answer_to, bad_answer}
 use Rattle.lines.specs.Lines.{lf}
 use Rattle.batch.specs.Batch.{batch}
 use Rattle.batch.specs.Stream.{fresh, pushed, after, closed, wrote, ended, used_from, used}
-use Rattle.batch.specs.Feed.{Feeds, Finishes, Calls, begin, call}
+use Rattle.batch.specs.Feed.{Feeds, Finished, finish_told, Finishes, Calls, begin, call}
 use Rattle.batch.proofs.AnyPieces.{after_append, wrote_append, one_piece}
 use Rattle.answer.proofs.Answering.{long_line}
 
 -- ---- two answers that meet a contract are one, the buffers too
+
+finish_told_once : (r q : Option ℕ) → finish_told r ≡ finish_told q → r ≡ q
+finish_told_once None None e = refl
+finish_told_once None (Some m) e = absurd (false≢true (ap (λ (x : Finished). x.done) e))
+finish_told_once (Some n) None e = absurd (false≢true (sym (ap (λ (x : Finished). x.done) e)))
+finish_told_once (Some n) (Some m) e = ap Some (ap (λ (x : Finished). x.wrote) e)
 
 module _ {answer : List ℕ → List ℕ} {bad : List ℕ} {l : Line} {before a b : List ℕ} where
   pub feeds_one : {s : List ℕ} {r q : Fed} → Feeds answer bad l s before a r → Feeds answer bad l s before b q → (a ≡ b) × (r ≡ q)
@@ -45,6 +51,10 @@ module _ {answer : List ℕ → List ℕ} {bad : List ℕ} {l : Line} {before a 
       let t = puts_once refl f.text g.text in
       let w : r.wrote ≡ q.wrote = t.1 in
       (t.0, λ i. record { done = d i; wrote = w i })
+
+  -- what is told of a result decides it, so two calls for one end answer the same
+  pub ends_one : (r q : Option ℕ) → Finishes answer bad l before a (finish_told r) → Finishes answer bad l before b (finish_told q) → (a ≡ b) × (r ≡ q)
+  ends_one r q f g = let e = finishes_one f g in (e.0, finish_told_once r q e.1)
 
 module _ (answer : List ℕ → List ℕ) (bad : List ℕ) where
   -- ---- no more of a piece is used than there is, and with room for an answer some of it is

@@ -1,62 +1,95 @@
 -- What the loops keep, and what the answer to a carried line is, on plain lists: each turn takes one byte, or one line.
 -- Assumes nothing.
 use mathlib.Core.Path.{◌≡◌, refl, sym, ap, ◌∙◌}
-use mathlib.Core.Bool.{true, false}
-use mathlib.Core.List.{List, [], ◌++◌}
+use mathlib.Core.Bool.{true, false, ◌&&◌}
+use mathlib.Core.List.{List, [], ◌∷◌, ◌++◌, append_assoc}
 use mathlib.Core.Logic.{⊎_elim}
-use Prim.Native.Nat.{ℕ, suc, ◌+◌, ◌-◌, ◌≤◌, ◌<◌}
+use Rattle.std.specs.Prelude.{Some}
+use Prim.Native.Nat.{ℕ, suc, ◌+◌, ◌-◌, ◌≤◌, ◌<◌, min}
 use native.Mathlib.Numerals.{add-one}
 use native.Mathlib.Omega.{arith}
 use lib.Dec.{leb}
-use lib.ListN.{length, take, drop, set, get_or, replicate, length-drop, length-replicate, drop_of_length-le}
-use lib.Seq.{take-add, drop-drop, drop-cons}
-use borrow.Author.Tests.{lt-ltb, le-ltb, le-leb, lt-leb}
+use borrow.Rule.Slice.PartMut.{put_mid}
+use lib.ListN.{length, take, drop, set, get_or, replicate, length-drop, length-replicate, take-append-drop}
+use lib.Seq.{take-add, drop-drop, drop-cons, length-take-le, sets, sets-eq, take_all}
+use borrow.Author.Tests.{lt-ltb, le-ltb, le-leb, lt-leb, leb-true}
 use Rattle.lists.specs.Tests.{any_of, index_of}
 use Rattle.lists.specs.Front.{Puts}
-use Rattle.lists.proofs.Laws.{clash, lt_or_le}
+use Rattle.lists.proofs.Laws.{both, clash, lt_or_le}
 use Rattle.lists.proofs.Pieces.{then, puts_length, puts_once, nothing}
 use Rattle.lists.proofs.Scan.{found, found_inside}
 use Rattle.lines.specs.Lines.{lf}
-use Rattle.answer.specs.declared.Next.{Next}
-use Rattle.answer.specs.declared.Wrote.{Wrote}
 use Rattle.batch.specs.declared.stream.Line.{Line}
 use Rattle.batch.specs.Stream.{fresh, pushed, pushed_all, after, closed, wrote, used_from, used}
-use Rattle.answer.specs.Answers.{most, Writes, AnswersFirst}
+use Rattle.answer.specs.Answers.{most, Wrote, wrote_told, Writes, Next, AnswersFirst}
 use Rattle.batch.specs.Feed.{Scans}
 use Rattle.batch.proofs.AnyPieces.{after_append, wrote_append, holds_fresh, closed_all}
 use Rattle.batch.proofs.Cuts.{none_used, line_after, line_wrote, line_used}
-use Rattle.answer.proofs.Parts.{head_part, tail_part, lent, lent_back}
+use Rattle.answer.proofs.Parts.{tail_part, lent, lent_back}
 
 -- ---- carried
 
-module _ (s : List ℕ) (l : Line) (i : ℕ) (h : i < length s) where
-  next : pushed_all l (drop i s) ≡ pushed_all (pushed l (get_or s i 0)) (drop (i + 1) s)
-  unfolding pushed_all
-  next = rw (add-one i, drop-cons s i 0 h)
+-- where there is room the bytes are set one after the other
+fitting : (l : Line) (s : List ℕ) → l.n + length s ≤ 1024 → pushed_all l s ≡ record { held = sets l.held l.n s; n = l.n + length s }
+unfolding pushed pushed_all
+fitting l [] h = let e : l.n ≡ l.n + 0 = omega arith in λ i. record { held = l.held; n = e i }
+fitting l (b ∷ s) h =
+    let e : l.n + 1 + length s ≡ l.n + suc (length s) = omega arith in
+    rw (lt-ltb l.n 1024 (omega arith)) (fitting (record { held = set l.held l.n b; n = l.n + 1 }) s (omega arith) ∙ rw (e, add-one l.n))
 
-  pub push_short : l.n < 1024 → pushed_all l (drop i s) ≡ pushed_all (record { held = set l.held l.n (get_or s i 0); n = l.n + 1 }) (drop (i + 1) s)
-  unfolding pushed
-  push_short k = next ∙ simp (lt-ltb _ _ k)
+-- where there is none, only the mark is
+full : (l : Line) (b : ℕ) (s : List ℕ) → 1024 ≤ l.n → pushed_all l (b ∷ s) ≡ record { held = l.held; n = 1025 }
+unfolding pushed pushed_all
+full l b [] h = rw (le-ltb l.n 1024 h)
+full l b (c ∷ s) h = rw (le-ltb l.n 1024 h) (full (record { held = l.held; n = 1025 }) c s (omega arith))
 
-  pub push_over : 1024 ≤ l.n → pushed_all l (drop i s) ≡ pushed_all (record { held = l.held; n = 1025 }) (drop (i + 1) s)
-  unfolding pushed
-  push_over k = next ∙ simp (le-ltb _ _ k)
-
-pub push_end : (s : List ℕ) {i : ℕ} (l : Line) → length s ≤ i → pushed_all l (drop i s) ≡ l
+pushed_append : (l : Line) (s t : List ℕ) → pushed_all l (s ++ t) ≡ pushed_all (pushed_all l s) t
 unfolding pushed_all
-push_end s l h = rw (drop_of_length-le s h)
+pushed_append l [] t = refl
+pushed_append l (b ∷ s) t = pushed_append (pushed l b) s t
+
+-- the first n bytes of a piece are those that fit, from `start` on
+module _ (l : Line) (s : List ℕ) {start n : ℕ} (long : length l.held ≡ 1024) (from : start ≡ min l.n 1024) (most : n ≡ min (length s) (1024 - start)) where
+  few : length (take n s) ≡ n
+  few = length-take-le n s (omega arith)
+
+  begun : pushed_all l (take n s) ≡ record { held = sets l.held start (take n s); n = l.n + n }
+  unfolding pushed_all
+  begun =
+      ⊎_elim
+      (λ h. let e : n ≡ 0 = omega arith in let z : l.n ≡ l.n + 0 = omega arith in rw e (λ i. record { held = l.held; n = z i }))
+      (λ h. let e : start ≡ l.n = omega arith in rw e (fitting l (take n s) (omega (arith, few)) ∙ rw few))
+      (lt_or_le 1024 l.n)
+
+  -- as the code has it: they are copied to where the line goes on
+  put : {copied : List ℕ} → copied ≡ take n s → put_mid start (start + n - start) l.held copied ≡ sets l.held start (take n s)
+  put {copied} c =
+      let e : start + n - start ≡ length (take n s) = omega (arith, few) in
+      rw (c, e, drop-drop (length (take n s)) start l.held) (sym (sets-eq (take n s) l.held start (omega (arith, few, long)) ∙ append_assoc (take start l.held) (take n s) _))
+
+  pub carries_all : {copied : List ℕ} → copied ≡ take n s → length s ≤ n
+      → record { held = put_mid start (start + n - start) l.held copied; n = l.n + n } ≡ pushed_all l s
+  carries_all c h = rw (put c) (sym begun ∙ ap (pushed_all l) (take_all n s h))
+
+  pub carries_over : {copied : List ℕ} → copied ≡ take n s → n < length s
+      → record { held = put_mid start (start + n - start) l.held copied; n = 1025 } ≡ pushed_all l s
+  carries_over c h =
+      let k : Line = record { held = sets l.held start (take n s); n = l.n + n } in
+      rw (put c)
+      (sym (ap (pushed_all l) (sym (take-append-drop n s)) ∙ pushed_append l (take n s) (drop n s) ∙ ap (λ (x : Line). pushed_all x (drop n s)) begun
+      ∙ ap (pushed_all k) (drop-cons s n 0 h) ∙ full k (get_or s n 0) (drop (suc n) s) (omega arith)))
 
 -- ---- close
 
--- with room, the text is put at the start
-pub in_full : {xs before after : List ℕ} {r : Wrote} → most ≤ length before → Writes xs before after r → Puts xs before after 0 r.length
-in_full h w = rw (le-leb _ _ h) at w.text
+-- with room, the text is put at the start, and its length is told
+pub in_full : {xs before after : List ℕ} {n : ℕ} → Writes xs before after (wrote_told (Some n)) → Puts xs before after 0 n
+in_full w = rw (← w.done) at w.text
 
 module _ (answer : List ℕ → List ℕ) (bad : List ℕ) (over : (l : List ℕ) → 1024 < length l → answer l ≡ bad) (l : Line)
     {before after : List ℕ} {r : Wrote} where
-  pub closes_short : l.n ≤ 1024 → Writes (answer (take (l.n - 0) (drop 0 l.held))) before after r → Writes (closed answer bad l) before after r
+  pub closes_short : l.n ≤ 1024 → Writes (answer (take l.n l.held)) before after r → Writes (closed answer bad l) before after r
   unfolding closed
-  closes_short h w = rw (le-leb _ _ h) (rw (head_part l.held l.n) at w)
+  closes_short h w = rw (le-leb _ _ h) w
 
   pub closes_over : 1024 < l.n → Writes (answer (replicate 1025 0)) before after r → Writes (closed answer bad l) before after r
   unfolding closed
@@ -92,7 +125,7 @@ module _ (answer : List ℕ → List ℕ) (bad : List ℕ) where
 
 module _ {answer : List ℕ → List ℕ} {bad : List ℕ} {s out₀ out : List ℕ} {at o : ℕ} (k : Kept answer bad s out₀ out at o) where
   -- there is no room for a further answer
-  pub stops : length out - o < most → Scans answer bad s out₀ out (record { at = at; length = o })
+  stops : length out - o < most → Scans answer bad s out₀ out (record { at = at; length = o })
   stops h =
       let r : length out₀ - o < most = omega (arith, k.long) in
       record {
@@ -132,50 +165,54 @@ module _ {answer : List ℕ → List ℕ} {bad : List ℕ} {s out₀ out : List 
               ∙ omega arith;
         }
 
-    -- the same as the code has it: what is left of the piece and of the buffer are lent
-    module _ {last : List ℕ} {r : Next} (n : AnswersFirst answer (take (length s - at) (drop at s)) (take (length out - o) (drop o out)) last r) where
-      first : AnswersFirst answer (drop at s) (take (length out - o) (drop o out)) last r
-      first = rw (tail_part s at) at n
+    -- no line ends in the rest
+    rests : length (drop at s) ≤ index_of lf (drop at s) → Scans answer bad s out₀ out (record { at = at; length = o })
+    rests q =
+        record {
+          inside = k.inside;
+          text = k.text;
+          none_carried = k.none_carried;
+          all = rw (le-leb _ _ room₀) (k.all ∙ omega (arith, used_open answer bad fresh (drop at s) room₀, none_used fresh (drop at s) q answer bad (length out₀ - o), k.inside, length-drop at s));
+          last = λ z. q;
+        }
 
-      roomy : leb most (length (take (length out - o) (drop o out))) ≡ true
-      roomy = le-leb most (length (take (length out - o) (drop o out))) (omega (arith, ap length (tail_part out o), length-drop o out))
+  -- the same as the code has it: what is left of the piece and of the buffer are lent
+  module _ {last : List ℕ} {r : Next} (n : AnswersFirst answer (take (length s - at) (drop at s)) (take (length out - o) (drop o out)) last r) where
+    first : AnswersFirst answer (drop at s) (take (length out - o) (drop o out)) last r
+    first = rw (tail_part s at) at n
 
-      some : r.done ≡ any_of lf (drop at s)
-      some = rw roomy at first.done
+    answered : r.done ≡ leb most (length out - o) && any_of lf (drop at s)
+    answered =
+        let room : length (take (length out - o) (drop o out)) ≡ length out - o = omega (arith, ap length (tail_part out o), length-drop o out) in
+        rw room at first.done
 
-      -- no line ends in the rest
-      pub stays : r.done ≡ false → Scans answer bad s out₀ (take o out ++ (last ++ drop (length out - o) (drop o out))) (record { at = at; length = o })
-      stays e =
-          let q : length (drop at s) ≤ index_of lf (drop at s) =
-          ⊎_elim (λ h. clash (some ∙ found lf (drop at s) h) e) (λ h. h) (lt_or_le (index_of lf (drop at s)) (length (drop at s))) in
-          let text : Puts [] (take (length out - o) (drop o out)) last 0 r.length = rw e at first.text in
-          rw (lent_back o out (puts_once refl text nothing).0)
-          (record {
-            inside = k.inside;
-            text = k.text;
-            none_carried = k.none_carried;
-            all = rw (le-leb _ _ room₀) (k.all ∙ omega (arith, used_open answer bad fresh (drop at s) room₀, none_used fresh (drop at s) q answer bad (length out₀ - o), k.inside, length-drop at s));
-            last = λ z. q;
-          })
+    -- no line is answered
+    pub stays : r.done ≡ false → Scans answer bad s out₀ (take o out ++ (last ++ drop (length out - o) (drop o out))) (record { at = at; length = o })
+    stays e =
+        let text : Puts [] (take (length out - o) (drop o out)) last 0 r.length = rw e at first.text in
+        let full = λ (room : most ≤ length out - o). λ (h : index_of lf (drop at s) < length (drop at s)).
+        clash (rw (le-leb _ _ room, found lf (drop at s) h) at answered) e in
+        rw (lent_back o out (puts_once refl text nothing).0)
+        (⊎_elim stops (λ room. rests room (⊎_elim (full room) (λ h. h) (lt_or_le (index_of lf (drop at s)) (length (drop at s))))) (lt_or_le (length out - o) most))
 
-      module _ (e : r.done ≡ true) where
-        inside : index_of lf (drop at s) < length (drop at s)
-        inside = found_inside lf (drop at s) (sym some ∙ e)
+    module _ (e : r.done ≡ true) where
+      both_hold : (leb most (length out - o) ≡ true) × (any_of lf (drop at s) ≡ true)
+      both_hold = both _ _ (sym answered ∙ e)
 
-        placed : Puts (answer (take (index_of lf (drop at s)) (drop at s))) out (take o out ++ (last ++ drop (length out - o) (drop o out))) o (o + r.length)
-        placed = lent o (length out - o) out (omega (arith, k.text.room, k.long)) (rw e at first.text)
+      inside : index_of lf (drop at s) < length (drop at s)
+      inside = found_inside lf (drop at s) both_hold.1
 
-        end : r.end ≡ index_of lf (drop at s)
-        end = rw e at first.end
+      placed : Puts (answer (take (index_of lf (drop at s)) (drop at s))) out (take o out ++ (last ++ drop (length out - o) (drop o out))) o (o + r.length)
+      placed = lent o (length out - o) out (omega (arith, k.text.room, k.long)) (rw e at first.text)
 
-        pub turn_fits : o + r.length ≤ length out
-        turn_fits = placed.room
+      end : r.end ≡ index_of lf (drop at s)
+      end = rw e at first.end
 
-        pub turn_on : at + r.end < length s
-        turn_on = omega (arith, end, inside, length-drop at s)
+      pub turn_on : at + r.end < length s
+      turn_on = omega (arith, end, inside, length-drop at s)
 
-        pub turn : ((l : List ℕ) → 1024 < length l → answer l ≡ bad)
-            → Kept answer bad s out₀ (take o out ++ (last ++ drop (length out - o) (drop o out))) (at + (r.end + 1)) (o + r.length)
-        turn over =
-            let z : at + (r.end + 1) ≡ at + suc (index_of lf (drop at s)) = omega (arith, end) in
-            rw z (turns over r.length inside placed)
+      pub turn : ((l : List ℕ) → 1024 < length l → answer l ≡ bad)
+          → Kept answer bad s out₀ (take o out ++ (last ++ drop (length out - o) (drop o out))) (at + (r.end + 1)) (o + r.length)
+      turn over =
+          let z : at + (r.end + 1) ≡ at + suc (index_of lf (drop at s)) = omega (arith, end) in
+          rw z (turns (leb-true _ _ both_hold.0) over r.length inside placed)

@@ -1,15 +1,23 @@
 -- What the calls that feed a stream say, for any answer to a line: each decides all of its result and every entry of
 -- the buffer.
-use Rattle.std.specs.Prelude.{List, [], ◌++◌, ◌≡◌, ℕ, ◌-◌, ◌≤◌, leb, length, take, drop}
+use Rattle.std.specs.Prelude.{Bool, true, false, Option, Some, None, List, [], ◌++◌, ◌≡◌, ℕ, ◌-◌, ◌≤◌, leb, length, take, drop}
 use Rattle.lists.specs.Tests.{pick, index_of}
 use Rattle.lists.specs.Front.{Puts}
 use Rattle.lines.specs.Lines.{lf}
 use Rattle.answer.specs.Answers.{most}
 use Rattle.batch.specs.declared.stream.Fed.{Fed}
-use Rattle.batch.specs.declared.stream.Finished.{Finished}
 use Rattle.batch.specs.declared.stream.Line.{Line}
 use Rattle.batch.specs.declared.stream.Scanned.{Scanned}
 use Rattle.batch.specs.Stream.{fresh, pushed_all, after, wrote, ended, used}
+
+-- whether there was room, and how many bytes are written
+pub record Finished : Type 0 where
+  pub done : Bool
+  pub wrote : ℕ
+
+abbrev pub finish_told : Option ℕ → Finished
+finish_told None = record { done = false; wrote = 0 }
+finish_told (Some n) = record { done = true; wrote = n }
 
 -- of a piece s whose lines up to `at` are answered, in o bytes: with room for a further answer the rest is carried on
 unfoldable pub rest_of : List ℕ → ℕ → ℕ → ℕ → Fed

@@ -9,8 +9,8 @@ use native.Mathlib.Omega.{arith}
 use Rattle.lists.specs.Tests.{within, all_of}
 use Rattle.lists.proofs.Laws.{both, refuted, clash, inside, in_range, in_table}
 use Rattle.characters.specs.Characters.{signs, signs_in, stretch, kind_by, any_kind, kanji_with, kind_with}
-use Rattle.characters.specs.declared.Kind.{Kind}
-use Rattle.characters.specs.declared.Kind.TheVariants.{Hiragana, Katakana, Kanji, Sign, None}
+use Rattle.characters.specs.Kinds.{Kind}
+use Rattle.characters.specs.Kinds.{Hiragana, Katakana, Kanji, Sign, None}
 use Rattle.characters.proofs.OneKind.{held, each_sign}
 
 -- a range that lies within another

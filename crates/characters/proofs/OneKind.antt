@@ -8,12 +8,15 @@ use Prim.Native.Nat.{ℕ}
 use native.Mathlib.Omega.{arith}
 use lib.Dec.{eqb}
 use borrow.Author.Tests.{not-true}
+use Rattle.std.proofs.lemmas.Bool.Decides.{nat_tests}
 use Rattle.lists.specs.Tests.{pick, within, all_of, any_of, elem}
 use Rattle.lists.proofs.Laws.{both, by_test, neither, clash, in_range, outside, in_table}
 use Rattle.characters.specs.Kanji.{kanji}
 use Rattle.characters.specs.Characters.{kind_letter, kinds, signs, signs_in, stretch, kind_among, kind_by, kind, any_kind, japanese_by, kanji_with, kind_with}
-use Rattle.characters.specs.declared.Kind.{Kind}
-use Rattle.characters.specs.declared.Kind.TheVariants.{Hiragana, Katakana, Kanji, Sign, None}
+use Rattle.std.specs.Prelude.{Option, None as nothing, Some, is_some}
+use Rattle.characters.specs.declared.Kind as one
+use Rattle.characters.specs.Kinds.{Kind, kind_told}
+use Rattle.characters.specs.Kinds.{Hiragana, Katakana, Kanji, Sign, None}
 use Rattle.characters.proofs.Lent.{kanji_within}
 
 -- ---- whichever code points are kanji, in any edition
@@ -60,6 +63,15 @@ module _ (isKanji : ℕ → Bool) (edition c : ℕ) where
 pub lent_kanji : (table : List ℕ) (edition c : ℕ) → kanji_with table c ≡ true → Kanji ≡ kind_with table edition c
 unfolding kind_with
 lent_kanji table edition c e = sym (kanji_there (kanji_with table) edition c (unfold kanji_with in (both (within 0x4E00 0x9FA0 c) _ e).0) e)
+
+-- the stretches are asked in turn
+pub in_turn : (table : List ℕ) (edition c : ℕ)
+    → kind_with table edition c
+    ≡ pick (within 0x3041 0x3093 c) Hiragana (pick (within 0x30A1 0x30F6 c) Katakana (pick (kanji_with table c) Kanji (pick (elem c (signs_in edition)) Sign None)))
+unfolding kind_with kind_by kinds kind_among stretch
+in_turn table edition c = refl
+
+pub ruleset by_stretch = (lent_kanji, in_turn, nat_tests)
 
 -- ---- the signs of any edition
 
@@ -142,3 +154,32 @@ letter_back None = refl
 
 pub letters_apart : (j k : Kind) → kind_letter j ≡ kind_letter k → j ≡ k
 letters_apart j k e = sym (letter_back j) ∙ ap of_letter e ∙ letter_back k
+
+-- ---- the kind that a call tells
+
+-- a code point has a kind exactly where its kind is any but none
+pub some_is : (k : Option one.Kind) → is_some k ≡ any_kind (kind_told k)
+unfolding any_kind
+some_is (Some one.TheVariants.Hiragana) = refl
+some_is (Some one.TheVariants.Katakana) = refl
+some_is (Some one.TheVariants.Kanji) = refl
+some_is (Some one.TheVariants.Sign) = refl
+some_is nothing = refl
+
+-- what is told of a kind decides it
+pub kind_once : (j k : Option one.Kind) → kind_told j ≡ kind_told k → j ≡ k
+kind_once j k e = sym (again j) ∙ ap of_kind e ∙ again k
+  where
+    of_kind : Kind → Option one.Kind
+    of_kind Hiragana = Some one.TheVariants.Hiragana
+    of_kind Katakana = Some one.TheVariants.Katakana
+    of_kind Kanji = Some one.TheVariants.Kanji
+    of_kind Sign = Some one.TheVariants.Sign
+    of_kind None = nothing
+
+    again : (k : Option one.Kind) → of_kind (kind_told k) ≡ k
+    again (Some one.TheVariants.Hiragana) = refl
+    again (Some one.TheVariants.Katakana) = refl
+    again (Some one.TheVariants.Kanji) = refl
+    again (Some one.TheVariants.Sign) = refl
+    again nothing = refl

@@ -1,15 +1,16 @@
 -- What a base and a mark become, from the tables: each entry of a table passes a computed test, so each number in it does.
 -- Assumes nothing.
 use mathlib.Core.Path.{◌≡◌, refl, sym, ◌∙◌}
-use mathlib.Core.Bool.{Bool, true, false, not, ◌&&◌, ◌||◌, or-false}
-use mathlib.Core.List.{List}
+use mathlib.Core.Bool.{Bool, true, false, not, ◌&&◌, ◌||◌, or-true, or-false}
+use mathlib.Core.List.{List, [], ◌∷◌, ◌++◌}
 use mathlib.Core.Logic.{⊎_elim}
 use Prim.Native.Nat.{ℕ, ◌+◌, ◌-◌, ◌≤◌, ◌<◌}
 use native.Mathlib.Omega.{arith}
 use lib.Dec.{eqb, leb, ltb}
 use borrow.Author.Tests.{eqb-true, eqb-false, ne_eqb, leb-true, lt-ltb, le-ltb, not-true}
 use Rattle.lists.specs.Tests.{pick, within, all_of, any_of, elem}
-use Rattle.lists.proofs.Laws.{both, neither, either, clash, outside, in_table, in_range, lt_or_le}
+use Rattle.std.proofs.lemmas.Bool.Decides.{nat_tests}
+use Rattle.lists.proofs.Laws.{any_append, both, neither, either, clash, outside, in_table, in_range, lt_or_le}
 use Rattle.characters.specs.Replace.{ranges, range_in, is_half, replace_in, replace}
 use Rattle.characters.specs.Compose.{voiced, repeats, half_voiced, either_kana, composed}
 
@@ -48,9 +49,41 @@ module _ (table : List ℕ) (w : katakana_row table ≡ true) (b : ℕ) where
         (λ l. (in_range 0x30A1 0x3100 b (in_table (within 0x30A1 0x3100) b table w (rw (le-ltb b 0x30A1 l) at (sym h ∙ g)))).1)
         (lt_or_le b 0x30A1)
 
-pub repeats_low : (b : ℕ) → elem b repeats ≡ true → b ≤ 0x30FD
-unfolding repeats all_of
-repeats_low b e = leb-true b 0x30FD (in_table (λ (k : ℕ). leb k 0x30FD) b repeats refl e)
+-- the table of the code has the katakana repeat sign too, and so either kana has both
+abbrev with_repeat : List ℕ
+with_repeat = voiced ++ 0x30FD ∷ []
+
+module _ (b : ℕ) where
+  either_repeat : either_kana with_repeat b ≡ either_kana voiced b || elem b repeats
+  unfolding either_kana repeats elem any_of
+  either_repeat =
+      let back : eqb (b + 0x60) 0x30FD ≡ eqb b 0x309D = grind (arith, nat_tests) in
+      rw (any_append (eqb b) voiced (0x30FD ∷ []), any_append (eqb (b + 0x60)) voiced (0x30FD ∷ []), back)
+      (regroup (any_of (eqb b) voiced) (any_of (eqb (b + 0x60)) voiced) (eqb b 0x309D) (eqb b 0x30FD))
+    where
+      regroup : (v w h k : Bool) → (v || (k || false)) || (w || (h || false)) ≡ (v || w) || (h || (k || false))
+      regroup true w h k = refl
+      regroup false true h k = or-true (k || false)
+      regroup false false h true = sym (or-true h)
+      regroup false false h false = refl
+
+  pub is_voiced : elem (pick (ltb b 0x30A1) (b + 0x60) b) (voiced ++ 0x30FD ∷ []) ≡ either_kana voiced b || elem b repeats
+  unfolding voiced all_of within
+  is_voiced = either_row with_repeat refl b ∙ either_repeat
+
+  pub voiced_low : elem (pick (ltb b 0x30A1) (b + 0x60) b) (voiced ++ 0x30FD ∷ []) ≡ true → b ≤ 0x3100
+  unfolding voiced all_of within
+  voiced_low e = found_low with_repeat refl b refl e
+
+  pub is_half_voiced : elem (pick (ltb b 0x30A1) (b + 0x60) b) half_voiced ≡ either_kana half_voiced b
+  unfolding half_voiced all_of within
+  is_half_voiced = either_row half_voiced refl b
+
+  pub half_voiced_low : elem (pick (ltb b 0x30A1) (b + 0x60) b) half_voiced ≡ true → b ≤ 0x3100
+  unfolding half_voiced all_of within
+  half_voiced_low e = found_low half_voiced refl b refl e
+
+pub ruleset by_mark = (is_voiced, voiced_low, is_half_voiced, half_voiced_low, nat_tests)
 
 -- ---- what is composed
 

@@ -4,13 +4,12 @@
 use mathlib.Core.Path.{◌≡◌, refl, sym, ◌∙◌}
 use mathlib.Core.Bool.{Bool, true, false, ◌&&◌, ◌||◌}
 use mathlib.Core.List.{List, [], ◌∷◌}
-use mathlib.Core.Logic.{⊎_elim}
-use Prim.Native.Nat.{ℕ, ◌+◌, ◌-◌, ◌≤◌}
+use Prim.Native.Nat.{ℕ, ◌≤◌}
 use native.Mathlib.Omega.{arith}
 use lib.Dec.{leb, ltb}
 use borrow.Author.Tests.{leb-true, ltb-true}
 use Rattle.lists.specs.Tests.{pick, within, all_of}
-use Rattle.lists.proofs.Laws.{both, inside, outside, lt_or_le}
+use Rattle.lists.proofs.Laws.{both, inside, outside}
 use Rattle.characters.specs.declared.Replacement.TheVariants.{Other}
 use Rattle.characters.specs.Replace.{Range, range, ranges, range_in, class_of}
 
@@ -54,16 +53,6 @@ module _ (lo hi c : ℕ) (l : lo ≤ c) (h : c ≤ hi) where
 pub class_in : (lo hi c : ℕ) → settled lo hi ranges ≡ true → lo ≤ c → c ≤ hi → class_of lo ≡ class_of c
 unfolding class_of
 class_in lo hi c t l h = sym (region lo hi c l h ranges t)
-
--- the same of a region less p and q, which are next to each other, or one
-pub class_around : (lo p q hi c : ℕ) → settled lo (p - 1) ranges ≡ true → settled (q + 1) hi ranges ≡ true → class_of lo ≡ class_of (q + 1)
-    → q ≤ p + 1 → lo ≤ c → c ≤ hi → (c ≡ p → ⊥) → (c ≡ q → ⊥) → class_of lo ≡ class_of c
-class_around lo p q hi c s t e n l h f g =
-    ⊎_elim (λ i. class_in lo (p - 1) c s l (omega arith))
-    (λ i. e ∙ class_in (q + 1) hi c t (after (λ z. f (sym z)) (λ z. g (sym z)) i n) h) (lt_or_le c p)
-  where
-    after : (p ≡ c → ⊥) → (q ≡ c → ⊥) → p ≤ c → q ≤ p + 1 → q + 1 ≤ c
-    after f g i n = omega arith
 
 -- ---- by ranges
 

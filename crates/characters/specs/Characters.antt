@@ -3,8 +3,8 @@
 use Rattle.std.specs.Prelude.{Bool, true, false, ◌&&◌, ◌||◌, List, [], ◌∷◌, ℕ, ◌-◌, ◌/◌, ◌%◌, ◌^◌, eqb, get_or}
 use Rattle.lists.specs.Tests.{pick, within, any_of, elem}
 use Rattle.characters.specs.Kanji.{kanji}
-use Rattle.characters.specs.declared.Kind.{Kind}
-use Rattle.characters.specs.declared.Kind.TheVariants.{Hiragana, Katakana, Kanji, Sign, None}
+use Rattle.characters.specs.Kinds.{Kind}
+use Rattle.characters.specs.Kinds.{Hiragana, Katakana, Kanji, Sign, None}
 
 -- ASCII set: letters, digits, hyphen 2D. Letters are in lower case, as the normal form has them
 unfoldable pub alnum : ℕ → Bool

@@ -1,5 +1,5 @@
 -- What a base and the mark after it become: document 01, 'Normal form'.
-use Rattle.std.specs.Prelude.{Bool, ◌||◌, List, [], ◌∷◌, ℕ, ◌+◌, eqb}
+use Rattle.std.specs.Prelude.{Option, Some, None, Bool, ◌||◌, List, [], ◌∷◌, ℕ, ◌+◌, eqb}
 use Rattle.lists.specs.Tests.{pick, elem}
 
 -- the twenty to which mark 309B adds 1
@@ -27,3 +27,7 @@ composed b m =
     pick (eqb m 0x309B) (pick (either_kana voiced b || elem b repeats) (b + 1) (pick (eqb b 0x30A6) 0x30F4 0))
     (pick (eqb m 0x309C) (pick (either_kana half_voiced b) (b + 2) 0)
     0)
+
+-- what a call tells of that: nothing where the two stay apart
+unfoldable pub one_of : ℕ → Option ℕ
+one_of c = pick (eqb c 0) None (Some c)

@@ -1,3 +1,4 @@
+pub mod Kinds
 pub mod Kanji
 pub mod KanjiBits
 pub mod Characters

@@ -1,30 +1,21 @@
 -- The middle label: the table of characters, cut where each label of an edition starts, is the list of its labels, by computation; a search over
 -- the parts for one of which a test holds is a scan.
 -- Assumes nothing.
-use mathlib.Core.Path.{◌≡◌, refl, sym, ap, ◌∙◌}
-use mathlib.Core.Bool.{Bool, true, false, ◌&&◌, ◌||◌}
+use mathlib.Core.Path.{◌≡◌, refl, sym, ◌∙◌}
+use mathlib.Core.Bool.{Bool, true, false, ◌||◌}
 use mathlib.Core.List.{List, [], ◌∷◌}
-use mathlib.Core.Logic.{⊎_elim}
-use Prim.Native.Nat.{ℕ, suc, ◌+◌, ◌-◌, ◌≤◌, ◌<◌}
+use Prim.Native.Nat.{ℕ, ◌-◌, ◌≤◌, ◌<◌}
 use native.Mathlib.Omega.{arith}
 use lib.Dec.{eqb, leb}
-use lib.ListN.{length, take, drop, get_or, length-drop}
-use lib.Seq.{drop-cons}
-use borrow.Author.Tests.{leb-true, ne_eqb}
-use Rattle.lists.specs.Tests.{pick, within, any_of}
-use Rattle.lists.proofs.Laws.{both, inside, outside, lt_or_le}
+use lib.ListN.{length, take, drop, get_or}
+use borrow.Author.Tests.{leb-true}
+use Rattle.lists.specs.Tests.{pick, any_of}
+use Rattle.lists.proofs.Laws.{both}
 use Rattle.rules.specs.Editions.{has_prefectures, middles_in}
 use Rattle.rules.specs.Prefectures.{latin_prefectures, prefectures}
 use Rattle.endings.specs.Parts.{parts, starts_rise, starts_in}
 
--- the search from the i-th part on decides, and the starts from there on are in order
-pub record Left (f : List ℕ → Bool) (table starts : List ℕ) (i : ℕ) : Type 0 where
-  pub some : 1 ≤ i
-  pub told : any_of f (parts table starts) ≡ any_of f (parts table (drop (i - 1) starts))
-  pub order : starts_rise (length table) (drop (i - 1) starts) ≡ true
-
-pub at_first : (f : List ℕ → Bool) (table starts : List ℕ) → starts_rise (length table) starts ≡ true → Left f table starts 1
-at_first f table starts e = record { some = omega arith; told = refl; order = e }
+-- ---- the parts that are left, cut at the first two starts of what is left of them
 
 first_in : (n : ℕ) (a : ℕ) (ss : List ℕ) → starts_rise n (a ∷ ss) ≡ true → a ≤ n
 unfolding starts_rise
@@ -34,48 +25,47 @@ first_in n a (b ∷ ss) e =
     let k = first_in n b ss p.1 in
     omega (arith, leb-true a b p.0)
 
-module _ (f : List ℕ → Bool) (table starts : List ℕ) (i : ℕ) (l : Left f table starts i) (h : i < length starts) where
-  ahead : drop (i - 1) starts ≡ get_or starts (i - 1) 0 ∷ drop i starts
-  ahead =
-      let s : suc (i - 1) ≡ i = omega (arith, l.some) in
-      drop-cons starts (i - 1) 0 (omega arith) ∙ ap (λ (k : ℕ). get_or starts (i - 1) 0 ∷ drop k starts) s
+module _ (ss : List ℕ) {cut : List ℕ} {w : ℕ} (two : w ≡ 2) (h : w ≤ length ss) (e : cut ≡ take w ss) where
+  by_two : (G : List ℕ → List ℕ → Type 0) → ((a b : ℕ) (rest : List ℕ) → G (a ∷ b ∷ rest) (a ∷ b ∷ [])) → G ss cut
+  by_two G g = rw (e, two) (go ss (omega arith))
+    where
+      go : (l : List ℕ) → 2 ≤ length l → G l (take 2 l)
+      go [] k = absurd (omega arith)
+      go (a ∷ []) k = absurd (omega arith)
+      go (a ∷ b ∷ rest) k = g a b rest
 
-  two_ahead : drop (i - 1) starts ≡ get_or starts (i - 1) 0 ∷ get_or starts i 0 ∷ drop (suc i) starts
-  two_ahead = ahead ∙ ap (λ (ss : List ℕ). get_or starts (i - 1) 0 ∷ ss) (drop-cons starts i 0 h)
+  module _ (n : ℕ) where
+    pub bounds : starts_rise n ss ≡ true → (get_or cut 0 0 ≤ get_or cut 1 0) × (get_or cut 1 0 ≤ n)
+    unfolding starts_rise
+    bounds = by_two (λ l c. starts_rise n l ≡ true → (get_or c 0 0 ≤ get_or c 1 0) × (get_or c 1 0 ≤ n)) (λ a b rest o. let p = both (leb a b) _ o in (leb-true a b p.0, first_in n b rest p.1))
 
-  ordered : leb (get_or starts (i - 1) 0) (get_or starts i 0) && starts_rise (length table) (get_or starts i 0 ∷ drop (suc i) starts) ≡ true
-  unfolding starts_rise
-  ordered = ap (starts_rise (length table)) (sym two_ahead) ∙ l.order
+    pub order_on : {rest : List ℕ} → rest ≡ drop 1 ss → starts_rise n ss ≡ true → starts_rise n rest ≡ true
+    unfolding starts_rise
+    order_on q = rw q (by_two (λ l c. starts_rise n l ≡ true → starts_rise n (drop 1 l) ≡ true) (λ a b rest o. (both (leb a b) _ o).1))
 
-  pub bounds : (get_or starts (i - 1) 0 ≤ get_or starts i 0) × (get_or starts i 0 ≤ length table)
-  bounds = let p = both (leb (get_or starts (i - 1) 0) (get_or starts i 0)) _ ordered in (leb-true _ _ p.0, first_in _ _ _ p.1)
+  module _ (f : List ℕ → Bool) (table : List ℕ) where
+    abbrev part : List ℕ
+    part = take (get_or cut 1 0 - get_or cut 0 0) (drop (get_or cut 0 0) table)
 
-  peel : any_of f (parts table starts)
-      ≡ f (take (get_or starts i 0 - get_or starts (i - 1) 0) (drop (get_or starts (i - 1) 0) table)) || any_of f (parts table (drop i starts))
-  unfolding parts any_of
-  peel = l.told ∙ ap (λ (ss : List ℕ). any_of f (parts table ss)) two_ahead ∙ rw (drop-cons starts i 0 h)
+    peel : any_of f (parts table ss) ≡ f part || any_of f (parts table (drop 1 ss))
+    unfolding parts any_of
+    peel =
+        by_two
+        (λ l c. any_of f (parts table l) ≡ f (take (get_or c 1 0 - get_or c 0 0) (drop (get_or c 0 0) table)) || any_of f (parts table (drop 1 l)))
+        (λ a b rest. refl)
 
-  module _ {b : Bool} (e : b ≡ f (take (get_or starts i 0 - get_or starts (i - 1) 0) (drop (get_or starts (i - 1) 0) table))) where
-    pub part_here : b ≡ true → true ≡ any_of f (parts table starts)
-    part_here p = sym (peel ∙ simp (sym e ∙ p))
+    module _ {all : Bool} (told : all ≡ any_of f (parts table ss)) {t : Bool} (p : t ≡ f part) where
+      pub part_here : t ≡ true → true ≡ all
+      part_here q = sym (told ∙ peel ∙ simp (sym p ∙ q))
 
-    pub part_on : b ≡ false → Left f table starts (i + 1)
-    part_on p =
-        let s : i + 1 - 1 ≡ i = omega arith in
-        record {
-          some = omega arith;
-          told = peel ∙ simp (sym e ∙ p, s);
-          order = rw (s, drop-cons starts i 0 h) (both (leb (get_or starts (i - 1) 0) (get_or starts i 0)) _ ordered).1;
-        }
+      pub part_on : {rest : List ℕ} → rest ≡ drop 1 ss → t ≡ false → all ≡ any_of f (parts table rest)
+      part_on r q = told ∙ peel ∙ simp (sym p ∙ q, sym r)
 
-pub part_end : (f : List ℕ → Bool) (table starts : List ℕ) (i : ℕ) → Left f table starts i → length starts ≤ i → false ≡ any_of f (parts table starts)
-unfolding any_of parts
-part_end f table starts i l h = sym (l.told ∙ go (drop (i - 1) starts) (omega (arith, length-drop (i - 1) starts)))
-  where
-    go : (ss : List ℕ) → length ss ≤ 1 → any_of f (parts table ss) ≡ false
-    go [] h = refl
-    go (a ∷ []) h = refl
-    go (a ∷ b ∷ ss) h = absurd (omega arith)
+pub none_left : (f : List ℕ → Bool) (table ss : List ℕ) {w : ℕ} {all : Bool} → w ≡ 2 → length ss < w → all ≡ any_of f (parts table ss) → false ≡ all
+unfolding parts any_of
+none_left f table [] e h told = sym told
+none_left f table (a ∷ []) e h told = sym told
+none_left f table (a ∷ b ∷ ss) e h told = absurd (omega arith)
 
 -- ---- the starts of an edition
 
@@ -92,16 +82,3 @@ module _ (edition : ℕ) where
       go true true q f g h = g q refl
       go true false q f g h = h q refl
       go false b q f g h = f q refl
-
-  -- 1 and 2, 3, any other number
-  pub starts_none : (1 ≤ edition) → (edition ≤ 2) → 0 ≡ starts_in edition
-  unfolding starts_in
-  starts_none h k = rw (inside 1 2 edition h k)
-
-  pub starts_latin : edition ≡ 3 → 48 ≡ starts_in edition
-  unfolding starts_in within
-  starts_latin e = rw e
-
-  pub starts_all : (edition ≡ 1 → ⊥) → (edition ≡ 2 → ⊥) → (edition ≡ 3 → ⊥) → 95 ≡ starts_in edition
-  unfolding starts_in
-  starts_all f g h = rw (outside 1 2 edition (λ p q. ⊎_elim (λ k. f (omega arith)) (λ k. g (omega arith)) (lt_or_le edition 2)), ne_eqb edition 3 h)

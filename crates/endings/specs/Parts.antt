@@ -1,13 +1,12 @@
 -- Labels that stand one after the other in one table, and where each starts: what the private functions of the search
 -- answer.
-use Rattle.std.specs.Prelude.{Bool, true, ◌&&◌, List, [], ◌∷◌, ℕ, ◌-◌, eqb, leb, take, drop}
-use Rattle.lists.specs.Tests.{pick, same}
+use Rattle.std.specs.Prelude.{Bool, true, ◌&&◌, List, [], ◌∷◌, ◌≡◌, ℕ, ◌-◌, eqb, leb, take, drop}
+use Rattle.lists.specs.Tests.{pick}
 use Rattle.rules.specs.Editions.{has_prefectures}
-use Rattle.rules.specs.Hopeful.{begins}
 
--- a label is the part or, where it need not be exact, its beginning
-unfoldable pub is_part : Bool → List ℕ → List ℕ → Bool
-is_part exact label = pick exact (same label) (begins label)
+-- whatever a test answers of a part, f says of it
+abbrev pub Computes : (List ℕ → Bool → Type 0) → (List ℕ → Bool) → Type 0
+Computes answers f = (part : List ℕ) (b : Bool) → answers part b → b ≡ f part
 
 -- a table cut where each part starts, the last start being the end of the last part
 unfoldable pub parts : List ℕ → List ℕ → List (List ℕ)

@@ -2,30 +2,34 @@
 -- which 4 speaks. With room these answers are what the rows 2 to 4 say, and the buffer holds what is shown of the text.
 -- Assumes nothing.
 use mathlib.Core.Path.{◌≡◌, refl, sym, ap, ◌∙◌}
-use mathlib.Core.Bool.{true, false}
+use mathlib.Core.Bool.{Bool, true, false}
 use mathlib.Core.List.{List, [], ◌∷◌}
 use mathlib.Core.Logic.{⊎_elim}
-use Prim.Native.Nat.{ℕ, zero, suc, ◌-◌, ◌≤◌, ◌<◌}
+use Prim.Native.Nat.{ℕ, zero, suc, ◌-◌, ◌≤◌}
 use native.Mathlib.Omega.{arith}
 use lib.Dec.{eqb, ltb}
 use lib.ListN.{length, take, drop, get_or, length-append}
 use borrow.Author.Tests.{eqb-true, eqb-false, ne_eqb, le-ltb, ltb-false}
-use Rattle.lists.specs.Tests.{all_of, any_of, index_of}
+use Rattle.std.specs.Prelude.{Option, Some, None, slice_get}
+use Rattle.std.specs.List.{position}
+use Rattle.std.specs.Option.{MatchOption}
+use Rattle.std.proofs.lemmas.Option.{slice_get-get_or}
+use Rattle.lists.specs.Tests.{pick, all_of, any_of, index_of}
 use Rattle.lists.specs.Front.{written}
-use Rattle.lists.specs.Rows.{Row, row, accepted, first, Clear}
-use Rattle.lists.specs.declared.Answer.{Answer}
+use Rattle.lists.specs.Rows.{Row, row, Answer, accepted, first, Clear}
+use Rattle.lists.proofs.Chains.{position_at}
+use Rattle.lists.proofs.Fronts.{front}
 use Rattle.lists.proofs.Laws.{by_test, lt_or_le}
-use Rattle.lists.proofs.Scan.{found, not_found}
+use Rattle.lists.proofs.Scan.{found_inside}
 use Rattle.lists.proofs.Tables.{clear, clear_before, refused_before, hit, passed_over, refusing, accepted_clear, given_all, given_none}
 use Rattle.normal.specs.Normal.{normal_form, places}
 use Rattle.normal.specs.Calls.{rows, answer, writes, Normalises}
-use Rattle.normal.specs.declared.Normal.{Normal}
-use Rattle.normal.proofs.Laws.{no_longer}
+use Rattle.refusals.specs.Refusals.{Filled}
+use Rattle.normal.proofs.Laws.{no_longer, places_length}
 use Rattle.rules.specs.Permits.{Permits}
 use Rattle.rules.specs.Rules.{unfit, front_rows}
 use Rattle.rules.proofs.ByName.{clear_front, front_cleared}
-use Rattle.fronts.specs.Fronts.{shown, unfit_given, fronted, Fronts}
-use Rattle.fronts.specs.declared.Fronted.{Fronted}
+use Rattle.fronts.specs.Fronts.{shown, unfit_given, Fronted, form_told, fronted, Fronts}
 use Rattle.fronts.proofs.Shown.{at_start, shown_none, shown_over, shown_full}
 
 -- ---- the normal form call
@@ -39,12 +43,12 @@ writes_is : (text : List ℕ) (room : ℕ) → (answer text room).number ≡ 0 �
 unfolding writes
 writes_is text room e = given_all (answer text room) (normal_form text) e
 
-module _ {text before after : List ℕ} {n : Normal} (N : Normalises text before after n) where
+module _ {text before after : List ℕ} {n : Filled} (N : Normalises text before after n) where
   number_is : n.number ≡ (answer text (length before)).number
-  number_is = ap (λ (x : Normal). x.number) N.result
+  number_is = ap (λ (x : Filled). x.number) N.result
 
   length_is : n.length ≡ length (writes text (length before))
-  length_is = ap (λ (x : Normal). x.length) N.result
+  length_is = ap (λ (x : Filled). x.length) N.result
 
   -- what it wrote lies in the buffer
   pub inside : n.length ≤ length after
@@ -58,33 +62,36 @@ module _ {text before after : List ℕ} {n : Normal} (N : Normalises text before
     size_is : n.length ≡ length (normal_form text)
     size_is = length_is ∙ ap length (writes_is text (length before) zero_is)
 
+    pub form_to : take n.length after ≡ normal_form text
+    form_to = rw (length_is, N.buffer) (front (writes text (length before)) before) ∙ writes_is text (length before) zero_is
+
     pub form_is : take (n.length - 0) (drop 0 after) ≡ normal_form text
     form_is = rw (length_is, N.buffer) (at_start (writes text (length before)) before) ∙ writes_is text (length before) zero_is
 
 -- ---- what the code answers
 
-module _ (P : Permits) {text before after : List ℕ} {n : Normal} (N : Normalises text before after n) where
+module _ (P : Permits) {text before after : List ℕ} {n : Filled} (N : Normalises text before after n) where
   pub fronts_refused : (n.number ≡ 0 → ⊥)
       → Fronts P text before after (record { number = n.number; place = n.place; length = n.length; unfit = false; at = 0 })
   unfolding fronted unfit_given
   fronts_refused h = record { result = rw (N.result, ne_eqb (answer text (length before)).number 0 (λ z. h (number_is N ∙ z))); buffer = N.buffer }
 
-  module _ (z : n.number ≡ 0) {k : ℕ} (e : k ≡ index_of (unfit P) (take (n.length - 0) (drop 0 after))) where
-    index_is : k ≡ index_of (unfit P) (normal_form text)
-    index_is = e ∙ ap (index_of (unfit P)) (form_is N z)
-
-    pub fronts_unfit : {p : ℕ} → k < n.length → p ≡ get_or (places text) k 0
-        → Fronts P text before after (record { number = 0; place = 0; length = n.length; unfit = true; at = p })
+  -- of the first unfit character of the form, where there is one, the place is looked up
+  module _ (z : n.number ≡ 0) (at : Option ℕ) where
+    looked_up : (b : Bool) → any_of (unfit P) (normal_form text) ≡ b
+        → MatchOption (pick b (Some (index_of (unfit P) (normal_form text))) None) (at ≡ None) (λ k. at ≡ slice_get (places text) k)
+        → Fronts P text before after (form_told n.length at)
     unfolding fronted unfit_given
-    fronts_unfit h q =
-        let some = found (unfit P) (normal_form text) (omega (arith, index_is, size_is N z)) in
-        record { result = rw (accepted_is text (length before) (zero_is N z), length_is N, some, q, index_is); buffer = N.buffer }
+    looked_up true e m =
+        let k = index_of (unfit P) (normal_form text) in
+        let there : slice_get (places text) k ≡ Some (get_or (places text) k 0) =
+        slice_get-get_or (places text) k 0 (omega (arith, found_inside (unfit P) (normal_form text) e, places_length text)) in
+        record { result = rw (m, there, accepted_is text (length before) (zero_is N z), length_is N, e); buffer = N.buffer }
+    looked_up false e m = record { result = rw (m, accepted_is text (length before) (zero_is N z), length_is N, e); buffer = N.buffer }
 
-    pub fronts_fit : n.length ≤ k → Fronts P text before after (record { number = 0; place = 0; length = n.length; unfit = false; at = 0 })
-    unfolding fronted unfit_given
-    fronts_fit h =
-        let none = not_found (unfit P) (normal_form text) (omega (arith, index_is, size_is N z)) in
-        record { result = rw (accepted_is text (length before) (zero_is N z), length_is N, none); buffer = N.buffer }
+    pub fronts_given : MatchOption (position (unfit P) (take n.length after)) (at ≡ None) (λ k. at ≡ slice_get (places text) k)
+        → Fronts P text before after (form_told n.length at)
+    fronts_given m = looked_up (any_of (unfit P) (normal_form text)) refl (rw (form_to N z, position_at (unfit P) (normal_form text)) at m)
 
 -- ---- what it says of the rows, given room
 

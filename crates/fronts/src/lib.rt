@@ -4,54 +4,34 @@
 // over the rows 2 to 4 of `rules` (specs/Rules: front_rows).
 #![tactic(auto)]
 
-ghost use Rattle.rules.specs.Editions.{edition_with};
-ghost use Rattle.fronts.specs.Fronts.{Fronts};
+ghost use Rattle.rules.specs.Editions.{permits};
+ghost use Rattle.fronts.specs.Fronts.{Fronts, front_told};
 
+use characters::Edition;
 use labels::first_unfit_with;
+use refusals::Refused;
 
-const ACCEPTED: u8 = 0;
-
-// Number, place and length are those of the normal form call. Where the form is written, `unfit` says whether it holds an unfit character,
-// and `at` is the place of the first such one in the text.
+// How long the normal form is that is written, and the place in the text of its first unfit character.
 #[derive(Clone, Copy)]
-pub struct Fronted {
-    pub number: u8,
-    pub place: usize,
+pub struct Front {
     pub length: usize,
-    pub unfit: bool,
-    pub at: usize,
+    pub unfit: Option<usize>,
+}
+
+// What a judge answers: what is said of a text, and its normal form, which is shown with a refusal too: so many characters at the start of
+// the array, with zeros past them.
+#[derive(Clone, Copy)]
+pub struct Judgement<T> {
+    pub said: Result<T, Refused>,
+    pub form: [u32; 256],
+    pub length: usize,
 }
 
 // The normal form is written where there is one. A character that is unfit does not hinder that: who shows the form shows it with 4 too.
-pub fn front_with(kanji: &[u32], edition: u32, text: &[u32], form: &mut [u32]) -> Fronted
-    ensures { Fronts (edition_with kanji.now edition) text.now form.old form.new result }
+pub fn front_with(edition: &Edition, text: &[u32], form: &mut [u32]) -> Result<Front, Refused>
+    ensures { Fronts (permits edition.now) text.now form.old form.new (front_told result) }
 {
-    let normal = normal::normal_form(text, form);
-    let length = normal.length;
-    if normal.number != ACCEPTED {
-        return Fronted {
-            number: normal.number,
-            place: normal.place,
-            length,
-            unfit: false,
-            at: 0,
-        };
-    }
-    let k = first_unfit_with(kanji, edition, &form[0..length]);
-    if k < length {
-        return Fronted {
-            number: ACCEPTED,
-            place: 0,
-            length,
-            unfit: true,
-            at: normal::place_of(text, k),
-        };
-    }
-    Fronted {
-        number: ACCEPTED,
-        place: 0,
-        length,
-        unfit: false,
-        at: 0,
-    }
+    let length = normal::normal_form(text, form)?;
+    let unfit = first_unfit_with(edition, &form[..length]).and_then(|k| normal::place_of(text, k));
+    Ok(Front { length, unfit })
 }

@@ -1,135 +1,106 @@
 // Whether a text may yet become a name of an edition, as a call: the labels of its normal form are asked, the last of them as unfinished. The
 // call takes the number of an edition, any number, and any text. Its meaning is defined in `rules` (specs/Hopeful). The call `.._with` is lent
-// the table of kanji; the call without names it itself.
+// the table of kanji, in an edition; the call without names it itself.
 #![tactic(auto)]
 
 ghost use Rattle.std.specs.Prelude.{◌≡◌, ◌∷◌, [], ◌++◌};
 ghost use Rattle.rules.specs.Labels.{labels};
-ghost use Rattle.rules.specs.Editions.{edition_of, edition_with};
+ghost use Rattle.rules.specs.Editions.{edition_of, permits};
 ghost use Rattle.rules.specs.Hopeful.{leftmost, grows, hopeful};
 
+use characters::Edition;
 use endings::{begins_jp, begins_prefecture, is_prefecture};
 use fronts::front_with;
-use labelled::{EVERY_PAIR, LEAST, label_ends};
+use labelled::{Cut, OF_NAME, label_ends};
 use labels::label_rule_with;
-use names::{ACCEPTED, is_edition};
+use names::is_edition;
 
 // Fit as a leftmost label?
-fn is_leftmost(kanji: &[u32], edition: u32, label: &[u32]) -> bool
-    ensures { result ≡ leftmost (edition_with kanji.now edition) label.now }
+fn is_leftmost(edition: &Edition, label: &[u32]) -> bool
+    ensures { result ≡ leftmost (permits edition.now) label.now }
 {
-    let rule = label_rule_with(kanji, edition, label, LEAST, EVERY_PAIR, 0);
-    rule.number == ACCEPTED
+    label_rule_with(edition, label, OF_NAME, 0).is_ok()
 }
 
 // The same with c put after it. A label past 63 is too long already.
-fn leftmost_plus(kanji: &[u32], edition: u32, label: &[u32], c: u32) -> bool
-    ensures { result ≡ leftmost (edition_with kanji.now edition) (label.now ++ c ∷ []) }
+#[tactic(auto, using(crate::proofs::Hoping::too_long))]
+fn leftmost_plus(edition: &Edition, label: &[u32], c: u32) -> bool
+    ensures { result ≡ leftmost (permits edition.now) (label.now ++ c ∷ []) }
 {
     let n = label.len();
     if 63 < n {
         return false;
     }
-    let mut longer = [0u32; 64];
-    lists::copy(label, &mut longer);
+    let mut longer = [0; 64];
+    longer[..n].copy_from_slice(label);
     longer[n] = c;
-    let buffer: &[u32] = &longer;
-    is_leftmost(kanji, edition, &buffer[0..n + 1])
+    is_leftmost(edition, &longer[..=n])
 }
 
 // One label, unfinished: as it is, with a hiragana more, with a letter more.
-fn one_grows(kanji: &[u32], edition: u32, label: &[u32]) -> bool
-    ensures { result ≡ grows (edition_with kanji.now edition) (label.now ∷ []) }
+#[tactic(auto, using(crate::proofs::Hoping::one_tries))]
+fn one_grows(edition: &Edition, label: &[u32]) -> bool
+    ensures { result ≡ grows (permits edition.now) (label.now ∷ []) }
 {
-    if is_leftmost(kanji, edition, label) {
-        return true;
-    }
-    if leftmost_plus(kanji, edition, label, 0x3042) {
-        return true;
-    }
-    leftmost_plus(kanji, edition, label, 0x61)
+    is_leftmost(edition, label)
+        || leftmost_plus(edition, label, 0x3042)
+        || leftmost_plus(edition, label, 0x61)
 }
 
 // A leftmost label, and the beginning of "jp" or of a prefecture label.
-fn two_grow(kanji: &[u32], edition: u32, left: &[u32], last: &[u32]) -> bool
-    ensures { result ≡ grows (edition_with kanji.now edition) (left.now ∷ last.now ∷ []) }
+#[tactic(auto, unfolding(rules::specs::Hopeful::grows, rules::specs::Editions::edition_with))]
+fn two_grow(edition: &Edition, left: &[u32], last: &[u32]) -> bool
+    ensures { result ≡ grows (permits edition.now) (left.now ∷ last.now ∷ []) }
 {
-    if !is_leftmost(kanji, edition, left) {
-        return false;
-    }
-    if begins_jp(last) {
-        return true;
-    }
-    begins_prefecture(edition, last)
+    is_leftmost(edition, left) && (begins_jp(last) || begins_prefecture(edition.number, last))
 }
 
 // A leftmost label, a prefecture label, and the beginning of "jp".
-fn three_grow(kanji: &[u32], edition: u32, left: &[u32], middle: &[u32], last: &[u32]) -> bool
-    ensures { result ≡ grows (edition_with kanji.now edition) (left.now ∷ middle.now ∷ last.now ∷ []) }
+#[tactic(auto, unfolding(rules::specs::Hopeful::grows, rules::specs::Permits::middle, rules::specs::Editions::edition_with))]
+fn three_grow(edition: &Edition, left: &[u32], middle: &[u32], last: &[u32]) -> bool
+    ensures { result ≡ grows (permits edition.now) (left.now ∷ middle.now ∷ last.now ∷ []) }
 {
-    if !is_leftmost(kanji, edition, left) {
-        return false;
-    }
-    if !is_prefecture(edition, middle) {
-        return false;
-    }
-    begins_jp(last)
+    is_leftmost(edition, left) && is_prefecture(edition.number, middle) && begins_jp(last)
 }
 
 // The labels of a form.
-fn form_grows(kanji: &[u32], edition: u32, form: &[u32]) -> bool
-    ensures { result ≡ grows (edition_with kanji.now edition) (labels form.now) }
+#[tactic(auto, using(labelled::proofs::Cutting::two_within, labelled::proofs::Cutting::three_first, labelled::proofs::Cutting::three_within))]
+fn form_grows(edition: &Edition, form: &[u32]) -> bool
+    ensures { result ≡ grows (permits edition.now) (labels form.now) }
 {
-    let n = form.len();
-    let ends = label_ends(form);
-    let a = ends.first;
-    let b = ends.second;
-    if ends.count == 1 {
-        return one_grows(kanji, edition, form);
+    match label_ends(form) {
+        Cut::One => one_grows(edition, form),
+        Cut::Two(a) => two_grow(edition, &form[..a], &form[a + 1..]),
+        Cut::Three(a, b) => three_grow(edition, &form[..a], &form[a + 1..b], &form[b + 1..]),
+        Cut::More(..) => false,
     }
-    if ends.count == 2 {
-        return two_grow(kanji, edition, &form[0..a], &form[a + 1..n]);
-    }
-    if ends.count == 3 {
-        return three_grow(
-            kanji,
-            edition,
-            &form[0..a],
-            &form[a + 1..b],
-            &form[b + 1..n],
-        );
-    }
-    false
 }
 
 // May the text, with what is typed after it, yet be accepted by the edition? An empty text may; one past 256 code points may not, and by a
 // number that is no edition none may.
-pub fn may_become_with(kanji: &[u32], edition: u32, text: &[u32]) -> bool
-    ensures { result ≡ hopeful (edition_with kanji.now edition) text.now }
+pub fn may_become_with(edition: &Edition, text: &[u32]) -> bool
+    ensures { result ≡ hopeful (permits edition.now) text.now }
 {
-    if !is_edition(edition) {
+    if !is_edition(edition.number) {
         return false;
     }
-    if text.len() == 0 {
+    if text.is_empty() {
         return true;
     }
-    let mut form = [0u32; 256];
-    let front = front_with(kanji, edition, text, &mut form);
-    if front.number != ACCEPTED {
+    let mut form = [0; 256];
+    let Ok(front) = front_with(edition, text, &mut form) else {
         return false;
-    }
-    if front.unfit {
-        return false;
-    }
-    let length = front.length;
-    let buffer: &[u32] = &form;
-    form_grows(kanji, edition, &buffer[0..length])
+    };
+    front.unfit.is_none() && form_grows(edition, &form[..front.length])
 }
 
 // The same by the kanji themselves.
 pub fn may_become(edition: u32, text: &[u32]) -> bool
     ensures { result ≡ hopeful (edition_of edition) text.now }
 {
-    let kanji = characters::kanji_bits();
-    may_become_with(&kanji, edition, text)
+    let edition = Edition {
+        kanji: &characters::kanji_bits(),
+        number: edition,
+    };
+    may_become_with(&edition, text)
 }

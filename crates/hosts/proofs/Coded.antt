@@ -10,7 +10,7 @@ use lib.Dec.{eqb, ltb}
 use lib.ListN.{length}
 use Rattle.lists.specs.Tests.{all_of, any_of}
 use Rattle.lists.specs.Rows.{Row, row, Clear}
-use Rattle.lists.specs.declared.Answer.{Answer}
+use Rattle.lists.specs.Rows.{Answer}
 use Rattle.lists.proofs.Laws.{both, all_not}
 use Rattle.lists.proofs.Tables.{clear_before, past_table, of_two, only, never_given}
 use Rattle.normal.specs.Normal.{normal_form}
@@ -28,7 +28,7 @@ use Rattle.rules.proofs.Editions.{today_laws}
 use Rattle.ascii.specs.Ascii.{uncoded}
 use Rattle.ascii.proofs.Coded.{label_fine}
 use Rattle.hosts.specs.Hosts.{coded_rows, rows, host_rules, call_rows, HostForms}
-use Rattle.hosts.specs.declared.HostForm.{HostForm}
+use Rattle.refusals.specs.Refusals.{Filled}
 
 -- ---- a law of each label
 
@@ -72,17 +72,17 @@ module _ (P : Permits) where
         (sym (ap (λ (a : Answer). a.number) (clear_before (host_text_rows P text) (coded_rows P (normal_form text)) c)) ∙ e)
 
     -- and of no text does the call answer 14
-    pub form_never_14 : {before after : List ℕ} {r : HostForm} → HostForms P text before after r → r.number ≡ 14 → ⊥
+    pub form_never_14 : {before after : List ℕ} {r : Filled} → HostForms P text before after r → r.number ≡ 14 → ⊥
     unfolding call_rows host_rules only
     form_never_14 {before} F e =
         of_two (λ (a : Answer). a.number ≡ 14 → ⊥) (row 1 (ltb (length before) 255) 0 ∷ []) (rows P text)
         (never_given 14 (λ z. omega arith) (row 1 (ltb (length before) 255) 0 ∷ []) tt) never_14
-        (sym (ap (λ (x : HostForm). x.number) F.gives.result) ∙ e)
+        (sym (ap (λ (x : Filled). x.number) F.gives.result) ∙ e)
 
 -- ---- at the edition in force
 
 pub never_14_today : (text : List ℕ) → (host_rules today text).number ≡ 14 → ⊥
 never_14_today = never_14 today today_laws.stretch
 
-pub form_never_14_today : {text before after : List ℕ} {r : HostForm} → HostForms today text before after r → r.number ≡ 14 → ⊥
+pub form_never_14_today : {text before after : List ℕ} {r : Filled} → HostForms today text before after r → r.number ≡ 14 → ⊥
 form_never_14_today {text} = form_never_14 today today_laws.stretch text

@@ -10,7 +10,7 @@ use lib.Dec.{ltb}
 use borrow.Author.Tests.{ltb-false, le-ltb}
 use Rattle.lists.specs.Tests.{all_of}
 use Rattle.lists.specs.Rows.{Row, accepted, without, Clear}
-use Rattle.lists.specs.declared.Answer.{Answer}
+use Rattle.lists.specs.Rows.{Answer}
 use Rattle.lists.proofs.Laws.{all_append}
 use Rattle.lists.proofs.Tables.{clear, refusing, accepted_clear, split_clear, join_clear, only, part_clear, whole_clear}
 use Rattle.normal.specs.Normal.{normal_form}

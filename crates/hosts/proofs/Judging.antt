@@ -3,19 +3,19 @@
 -- Assumes nothing.
 use mathlib.Core.Path.{◌≡◌, refl, sym, ap, ◌∙◌}
 use mathlib.Core.Bool.{Bool, true, false}
-use mathlib.Core.List.{List, [], ◌∷◌, ◌++◌, append_assoc}
+use mathlib.Core.List.{List, ◌++◌, append_assoc}
 use Prim.Native.Nat.{ℕ, ◌-◌, ◌≤◌, ◌<◌}
 use native.Mathlib.Omega.{arith}
 use lib.Dec.{ltb}
-use lib.ListN.{length, take, drop, replicate}
+use lib.ListN.{length, take, replicate}
 use borrow.Author.Tests.{lt-ltb, le-ltb, ltb-true, ltb-false}
-use Rattle.lists.specs.Tests.{all_of, any_of, index_of}
-use Rattle.lists.specs.Front.{Puts}
-use Rattle.lists.specs.Rows.{Row, row, accepted, first, Clear}
-use Rattle.lists.specs.declared.Answer.{Answer}
-use Rattle.lists.proofs.Laws.{by_test}
+use Rattle.std.proofs.Common.{Option, Some, None}
+use Rattle.lists.specs.Tests.{all_of, any_of}
+use Rattle.lists.specs.Front.{written, Puts}
+use Rattle.lists.specs.Rows.{Row, accepted, first, Clear}
+use Rattle.lists.specs.Rows.{Answer}
 use Rattle.lists.proofs.Pieces.{puts_count, puts_written}
-use Rattle.lists.proofs.Tables.{clear, stands, hands_on, hit, passed_over, refusing, accepted_clear, split_clear, gives_no, gives_yes}
+use Rattle.lists.proofs.Tables.{clear, stands, hands_on, hit, passed_over, split_clear, gives_no, gives_yes}
 use Rattle.normal.specs.Normal.{normal_form}
 use Rattle.normal.proofs.Laws.{no_longer}
 use Rattle.rules.specs.Labels.{labels}
@@ -32,10 +32,10 @@ use Rattle.fronts.proofs.Fronting.{Told, told_size, told_fits, told_form}
 use Rattle.ascii.specs.Ascii.{ascii_form, writable}
 use Rattle.ascii.proofs.OfNames.{label_writable}
 use Rattle.hosts.specs.Hosts.{coded_rows, rows, host_rules, host_judged, call_rows, host_formed, HostForms}
-use Rattle.hosts.specs.Steps.{Judges, AllReady}
-use Rattle.hosts.specs.declared.HostForm.{HostForm}
-use Rattle.hosts.specs.declared.HostJudged.{HostJudged}
-use Rattle.hosts.specs.declared.judges.Ruled.{Ruled}
+use Rattle.hosts.specs.Steps.{Ruled, Judges, AllReady, first_label}
+use Rattle.refusals.specs.Refusals.{Filled}
+use Rattle.hosts.specs.Hosts.{HostJudged}
+use Rattle.hosts.proofs.Splitting.{found_first, found_none}
 use Rattle.hosts.proofs.Coded.{of_kept, each_label}
 use Rattle.hosts.proofs.Exactly.{number_clear}
 
@@ -54,25 +54,19 @@ module _ (P : Permits) (form : List ℕ) where
     pub said_5 : {a : Answer} → b ≡ true → a ≡ record { number = 5; place = 0 } → a ≡ first asked
     said_5 t q = q ∙ sym (stands (host_rows P (labels form)) _ (host_5 P (labels form) (ltb-true _ 3 (sym e ∙ t))) (λ z. omega arith))
 
-    module _ (f : b ≡ false) {a : Answer} (q : a ≡ first (row 6 (any_of is_empty (labels form)) (index_of is_empty (labels form)) ∷ [])) where
+    module _ (f : b ≡ false) {r : Option ℕ} (q : r ≡ first_label is_empty (labels form)) where
       many : 3 ≤ length (labels form)
       many = ltb-false _ 3 (sym e ∙ f)
 
-      -- where it refuses there is an empty label
-      row_6 : (a.number ≡ 0 → ⊥) → first (host_rows P (labels form)) ≡ a
-      row_6 h =
-          by_test (λ (t : Bool). any_of is_empty (labels form) ≡ t → first (host_rows P (labels form)) ≡ a) (any_of is_empty (labels form))
-          (λ t _. host_6 P (labels form) many t ∙ sym (q ∙ hit 6 _ _ [] t))
-          (λ t _. absurd (h (ap (λ (x : Answer). x.number) (q ∙ clear _ (t, tt))))) refl
+      -- the first empty label
+      pub said_6 : {i : ℕ} → r ≡ Some i → {a : Answer} → a ≡ record { number = 6; place = i } → a ≡ first asked
+      said_6 h p =
+          let n = found_first is_empty (labels form) (sym h ∙ q) in
+          p ∙ sym (stands (host_rows P (labels form)) _ (host_6 P (labels form) many n.0 ∙ rw n.1) (λ z. omega arith))
 
-      pub said_6 : (a.number ≡ 0 → ⊥) → a ≡ first asked
-      said_6 h = sym (stands (host_rows P (labels form)) _ (row_6 h) h)
-
-      module _ (z : a.number ≡ 0) {d : Answer} (t : d ≡ first (each_rows P 0 (labels form))) where
+      module _ (z : r ≡ None) {d : Answer} (t : d ≡ first (each_rows P 0 (labels form))) where
         none_empty : any_of is_empty (labels form) ≡ false
-        unfolding refusing all_of
-        none_empty =
-            (accepted_clear (row 6 (any_of is_empty (labels form)) (index_of is_empty (labels form)) ∷ []) refl (sym (ap (λ (x : Answer). x.number) q) ∙ z)).0
+        none_empty = found_none is_empty (labels form) (sym z ∙ q)
 
         rows_are : first (host_rows P (labels form)) ≡ d
         rows_are = host_each P (labels form) many none_empty ∙ sym t
@@ -113,24 +107,29 @@ module _ (P : Permits) {text before after : List ℕ} {n : ℕ} where
   judges_front T h = judges_as T (ap first (parted P text) ∙ stands (front_rows P text) _ T.answer h)
 
   module _ (T : Told P text before after accepted n) where
+    form_told : take n after ≡ normal_form text
+    form_told =
+        let e : n ≡ n - 0 = omega arith in
+        ap (λ (k : ℕ). take k after) e ∙ told_form P T
+
     -- the form holds nothing unfit
-    pub form_fit : any_of (unfit P) (take (n - 0) (drop 0 after)) ≡ false
-    form_fit = rw (told_form P T) (clear_front P text (front_cleared P text (ap (λ (a : Answer). a.number) T.answer))).fit
+    pub form_fit : any_of (unfit P) (take n after) ≡ false
+    form_fit = rw form_told (clear_front P text (front_cleared P text (ap (λ (a : Answer). a.number) T.answer))).fit
 
-    pub form_few : length (take (n - 0) (drop 0 after)) ≤ 256
-    form_few = rw (told_form P T) (omega (arith, told_size P T, told_fits P T))
+    pub form_few : length (take n after) ≤ 256
+    form_few = rw form_told (omega (arith, told_size P T, told_fits P T))
 
-    pub judges_on : {b : Answer} → b ≡ first (asked P (take (n - 0) (drop 0 after)))
+    pub judges_on : {b : Answer} → b ≡ first (asked P (take n after))
         → Judges P text before after (record { number = b.number; place = b.place; length = n })
     unfolding host_rules
     judges_on q =
         judges_as T
-        (ap first (parted P text) ∙ hands_on (front_rows P text) _ T.answer (front_cleared P text) refl ∙ sym (q ∙ ap (λ (l : List ℕ). first (asked P l)) (told_form P T)))
+        (ap first (parted P text) ∙ hands_on (front_rows P text) _ T.answer (front_cleared P text) refl ∙ sym (q ∙ ap (λ (l : List ℕ). first (asked P l)) form_told))
 
 -- ---- the call
 
 module _ (P : Permits) (text before : List ℕ) where
-  pub no_room : {r : HostForm} → length before < 255 → r ≡ host_formed (record { number = 1; place = 0 }) 0 → HostForms P text before before r
+  pub no_room : {r : Filled} → length before < 255 → r ≡ host_formed (record { number = 1; place = 0 }) 0 → HostForms P text before before r
   unfolding call_rows
   no_room h q = record { gives = gives_no host_formed _ _ before (hit 1 _ 0 _ (lt-ltb (length before) 255 h)) (λ z. omega arith) q }
 
@@ -141,7 +140,7 @@ module _ (P : Permits) (text before : List ℕ) where
         passed_over 1 _ 0 _ (le-ltb (length before) 255 h)
         ∙ sym (ap (λ (x : Ruled). record { number = x.number; place = x.place }) J.result)
 
-    pub ruled_out : {r : HostForm} → (j.number ≡ 0 → ⊥) → r ≡ host_formed (record { number = j.number; place = j.place }) 0 → HostForms P text before before r
+    pub ruled_out : {r : Filled} → (j.number ≡ 0 → ⊥) → r ≡ host_formed (record { number = j.number; place = j.place }) 0 → HostForms P text before before r
     ruled_out n q = record { gives = gives_no host_formed _ _ before ruled n q }
 
     module _ (z : j.number ≡ 0) where
@@ -166,10 +165,12 @@ module _ (P : Permits) (text before : List ℕ) where
       pub form_inside : j.length ≤ 256
       form_inside = omega (arith, size, no_longer text, (clear_host P text text_clears).0.few)
 
-      form_is : take (j.length - 0) (drop 0 form) ≡ normal_form text
-      form_is = rw (size, J.buffer, shows) (at_start (normal_form text) lent)
+      form_is : take j.length form ≡ normal_form text
+      form_is =
+          let e : length (normal_form text) ≡ length (normal_form text) - 0 = omega arith in
+          rw (size, J.buffer, shows) (ap (λ (k : ℕ). take k (written (normal_form text) lent)) e ∙ at_start (normal_form text) lent)
 
-      pub all_ready : AllReady P (take (j.length - 0) (drop 0 form)) (length before)
+      pub all_ready : AllReady P (take j.length form) (length before)
       unfolding coded_rows
       all_ready = rw form_is (record {
         fit = each_label P (writable P) (fitting P) text text_clears;
@@ -177,7 +178,7 @@ module _ (P : Permits) (text before : List ℕ) where
         fits = omega (arith, ltb-false _ (length (ascii_form P (normal_form text))) coded_clears.1.0);
       })
 
-      pub put_all : {after : List ℕ} {n : ℕ} → Puts (ascii_form P (take (j.length - 0) (drop 0 form))) before after 0 n
+      pub put_all : {after : List ℕ} {n : ℕ} → Puts (ascii_form P (take j.length form)) before after 0 n
           → HostForms P text before after (record { number = 0; place = 0; length = n })
       unfolding call_rows
       put_all t =

@@ -1,3 +1,4 @@
+mod Splitting
 mod Walking
 mod Counting
 mod Putting

@@ -22,7 +22,7 @@ use Rattle.ascii.specs.Ascii.{ascii_form, in_form, OneForm}
 use Rattle.ascii.proofs.OneForm.{Unmistaken, form_ascii}
 use Rattle.ascii.proofs.OneForm as Ascii
 use Rattle.hosts.specs.Hosts.{coded_rows, rows, host_rules, HostForms}
-use Rattle.hosts.specs.declared.HostForm.{HostForm}
+use Rattle.refusals.specs.Refusals.{Filled}
 use Rattle.hosts.proofs.Coded.{each_label}
 use Rattle.hosts.proofs.Exactly.{number_clear}
 use Rattle.hosts.proofs.Demands.{host_accepts}
@@ -49,10 +49,10 @@ module _ (P : Permits) where
   one_form s t p q = Ascii.one_form P (normal_form s) (normal_form t) (unmistaken s p) (unmistaken t q)
 
   -- of the call: two that answered 0, each in its own buffer
-  octets : {text before after : List ℕ} {r : HostForm} → HostForms P text before after r → r.number ≡ 0 → take r.length after ≡ ascii_form P (normal_form text)
+  octets : {text before after : List ℕ} {r : Filled} → HostForms P text before after r → r.number ≡ 0 → take r.length after ≡ ascii_form P (normal_form text)
   octets {before = before} {r = r} F z =
-      gave_front _ _ _ before F.gives (λ (x : HostForm). x.length) (λ a n. refl) (sym (ap (λ (x : HostForm). x.number) F.gives.result) ∙ z)
+      gave_front _ _ _ before F.gives (λ (x : Filled). x.length) (λ a n. refl) (sym (ap (λ (x : Filled). x.number) F.gives.result) ∙ z)
 
-  pub one_written : (s t before after before' after' : List ℕ) (r q : HostForm) → HostForms P s before after r → HostForms P t before' after' q
+  pub one_written : (s t before after before' after' : List ℕ) (r q : Filled) → HostForms P s before after r → HostForms P t before' after' q
       → r.number ≡ 0 → q.number ≡ 0 → (take r.length after ≡ take q.length after') ↔ (normal_form s ≡ normal_form t)
   one_written s t before after before' after' r q F G y z = rw (octets F y, octets G z) (one_form s t (host_accepts P F y) (host_accepts P G z))

@@ -3,15 +3,16 @@
 use Rattle.std.specs.Prelude.{List, [], ◌∷◌, ◌++◌, ℕ, ◌≤◌, ltb, length}
 use Rattle.lists.specs.Tests.{any_of, index_of}
 use Rattle.lists.specs.Rows.{Row, row, first, Gives}
-use Rattle.lists.specs.declared.Answer.{Answer}
+use Rattle.lists.specs.Rows.{Answer}
 use Rattle.normal.specs.Normal.{normal_form}
 use Rattle.rules.specs.Labels.{labels}
 use Rattle.rules.specs.Permits.{Permits}
 use Rattle.rules.specs.Hosts.{host_text_rows, host}
 use Rattle.fronts.specs.Fronts.{shown, padded}
+use Rattle.refusals.specs.Refusals.{told}
+use Rattle.fronts.specs.declared.Judgement.{Judgement}
 use Rattle.ascii.specs.Ascii.{ascii_form, uncoded}
-use Rattle.hosts.specs.declared.HostJudged.{HostJudged}
-use Rattle.hosts.specs.declared.HostForm.{HostForm}
+use Rattle.refusals.specs.Refusals.{Filled}
 
 -- ---- the rules
 
@@ -44,6 +45,15 @@ pub record HostGranted (P : Permits) (text : List ℕ) : Type 0 where
 
 -- ---- the judge: what the rules say of a text, with its normal form
 
+pub record HostJudged : Type 0 where
+  pub number : ℕ
+  pub place : ℕ
+  pub form : List ℕ
+  pub length : ℕ
+
+abbrev pub host_told : Judgement (Unit {0}) → HostJudged
+host_told j = record { number = (told j.said).number; place = (told j.said).place; form = j.form; length = j.length }
+
 unfoldable pub host_judged : Permits → List ℕ → HostJudged
 host_judged P text = record {
   number = (host_rules P text).number;
@@ -57,8 +67,8 @@ host_judged P text = record {
 unfoldable pub call_rows : Permits → List ℕ → ℕ → List Row
 call_rows P text room = row 1 (ltb room 255) 0 ∷ rows P text
 
-abbrev pub host_formed : Answer → ℕ → HostForm
+abbrev pub host_formed : Answer → ℕ → Filled
 host_formed a n = record { number = a.number; place = a.place; length = n }
 
-pub record HostForms (P : Permits) (text before after : List ℕ) (r : HostForm) : Type 0 where
+pub record HostForms (P : Permits) (text before after : List ℕ) (r : Filled) : Type 0 where
   pub gives : Gives host_formed (call_rows P text (length before)) (ascii_form P (normal_form text)) before after r

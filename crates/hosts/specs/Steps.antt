@@ -1,16 +1,25 @@
 -- What the functions below the calls answer: the rules of a text with its normal form, and what they ask of a form.
-use Rattle.std.specs.Prelude.{true, false, not, List, ◌≡◌, ℕ, ◌+◌, ◌≤◌, length}
-use Rattle.lists.specs.Tests.{any_of, all_of}
+use Rattle.std.specs.Prelude.{Bool, true, false, Option, Some, None, List, ◌≡◌, ℕ, ◌+◌, ◌≤◌, ltb, length}
+use Rattle.lists.specs.Tests.{pick, any_of, all_of, index_of}
 use Rattle.lists.specs.Front.{written}
 use Rattle.rules.specs.Labels.{labels}
 use Rattle.rules.specs.Permits.{Permits}
 use Rattle.fronts.specs.Fronts.{shown}
 use Rattle.ascii.specs.Ascii.{ascii_label, ascii_form, uncoded, writable}
 use Rattle.hosts.specs.Hosts.{host_rules}
-use Rattle.hosts.specs.declared.judges.Ruled.{Ruled}
-use Rattle.hosts.specs.declared.labelled.Octets.{Octets}
+use Rattle.refusals.specs.Refusals.{told}
+use Rattle.hosts.specs.declared.judges.Ruled as one
 
--- what the rules say of a text, with the length of its normal form, which stands at the buffer's start
+-- what the rules say of a text, and how long its normal form is
+pub record Ruled : Type 0 where
+  pub number : ℕ
+  pub place : ℕ
+  pub length : ℕ
+
+abbrev pub ruled_told : one.Ruled → Ruled
+ruled_told r = record { number = (told r.said).number; place = (told r.said).place; length = r.length }
+
+-- the normal form stands at the buffer's start
 pub record Judges (P : Permits) (text before after : List ℕ) (r : Ruled) : Type 0 where
   pub result : r ≡ record {
     number = (host_rules P text).number;
@@ -19,10 +28,13 @@ pub record Judges (P : Permits) (text before after : List ℕ) (r : Ruled) : Typ
   }
   pub buffer : after ≡ written (shown text) before
 
--- whether the coder takes a label, and how many octets its ASCII form then has
-pub record Counts (P : Permits) (l : List ℕ) (r : Octets) : Type 0 where
-  pub coded : r.coded ≡ not (uncoded P l)
-  pub count : r.coded ≡ true → r.count ≡ length (ascii_label P l)
+-- the index of the first label of which a test holds
+unfoldable pub first_label : (List ℕ → Bool) → List (List ℕ) → Option ℕ
+first_label f ls = pick (ltb (index_of f ls) (length ls)) (Some (index_of f ls)) None
+
+-- how many octets the ASCII form of a label has, if the coder takes it
+unfoldable pub octets : Permits → List ℕ → Option ℕ
+octets P l = pick (uncoded P l) None (Some (length (ascii_label P l)))
 
 -- the ASCII form of a label can be put from `at` on: it has at most 63 octets, the coder takes it, and there is room
 pub record Ready (P : Permits) (l : List ℕ) (at room : ℕ) : Type 0 where

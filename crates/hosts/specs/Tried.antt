@@ -4,7 +4,7 @@
 use Rattle.std.specs.Prelude.{◌≡◌, refl, List, [], ◌∷◌, ◌++◌, map, ℕ, zero, suc, replicate}
 use Rattle.lists.specs.Tests.{within, all_of, any_of, index_of, elem}
 use Rattle.lists.specs.Rows.{Row, accepted, first, without}
-use Rattle.lists.specs.declared.Answer.{Answer}
+use Rattle.lists.specs.Rows.{Answer}
 use Rattle.characters.specs.KanjiBits.{kanji_bits}
 use Rattle.characters.specs.Characters.{alnum, hyphen, ascii_set, kinds, signs, signs_in, stretch, kind_among, kind_by}
 use Rattle.characters.specs.Characters.{any_kind}

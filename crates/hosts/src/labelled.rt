@@ -1,149 +1,102 @@
-// What is asked of the labels of a form: 5 and 6, then label by label 7, 9, 17 and 10, then 14 and 19. Each is a walk from period to period.
+// What is asked of the labels of a form: 5 and 6, then label by label 7, 9, 17 and 10, then 14 and 19.
 ghost use Rattle.std.specs.Prelude.{◌≡◌, true, false, [], ◌∷◌, ◌++◌, ◌≤◌, ltb, length};
-ghost use Rattle.lists.specs.Tests.{all_of, any_of, index_of};
-ghost use Rattle.lists.specs.Rows.{row, first};
-ghost use Rattle.rules.specs.Labels.{labels};
+ghost use Rattle.lists.specs.Tests.{all_of, any_of};
+ghost use Rattle.lists.specs.Rows.{first};
+ghost use Rattle.refusals.specs.Refusals.{told};
+ghost use Rattle.rules.specs.Labels.{period, labels};
 ghost use Rattle.rules.specs.Permits.{is_empty};
 ghost use Rattle.rules.specs.Rules.{unfit};
 ghost use Rattle.rules.specs.Hosts.{each_rows, host_rows};
-ghost use Rattle.rules.specs.Editions.{today_with};
+ghost use Rattle.rules.specs.Editions.{permits};
 ghost use Rattle.ascii.specs.Ascii.{writable};
 ghost use Rattle.hosts.specs.Hosts.{coded_rows, total_row};
-ghost use Rattle.hosts.specs.Steps.{Counts};
+ghost use Rattle.hosts.specs.Steps.{first_label, octets};
 
-use crate::{ACCEPTED, EMPTY_LABEL, EVERY_PAIR, LABEL_COUNT, LEAST, MOST, OVER_63, OVER_253};
+use crate::{MOST, OF_HOST};
 use ascii::label_form;
-use labels::{label_end, label_rule_with};
-use lists::Answer;
-use rules::IN_FORCE;
+use characters::Edition;
+use labels::label_rule_with;
+use refusals::{Refusal, Refused};
 
-fn refused(number: u8, place: usize) -> Answer
-    ensures { result ≡ record { number = number; place = place } }
+const PERIOD: u32 = 0x2E;
+
+// Between two labels?
+pub(crate) fn is_period(c: &u32) -> bool
+    ensures { result ≡ period c.now }
 {
-    Answer { number, place }
+    *c == PERIOD
 }
 
 // Fewer than three labels?
 fn few_labels(form: &[u32]) -> bool
     ensures { result ≡ ltb (length (labels form.now)) 3 }
 {
-    let n = form.len();
-    let a = label_end(form, 0);
-    if a >= n {
-        return true;
-    }
-    let b = label_end(form, a + 1);
-    b >= n
+    form.split(is_period).count() < 3
 }
 
-// 6: the index of the first empty label.
-fn empty_rule(form: &[u32]) -> Answer
-    ensures { result ≡ first (row 6 (any_of is_empty (labels form.now)) (index_of is_empty (labels form.now)) ∷ []) }
+// The index of the first empty label.
+fn first_empty(form: &[u32]) -> Option<usize>
+    ensures { result ≡ first_label is_empty (labels form.now) }
 {
-    let mut from = 0;
-    let mut i = 0;
-    loop {
-        let end = label_end(form, from);
-        if end == from {
-            return refused(EMPTY_LABEL, i);
-        }
-        if end >= form.len() {
-            return refused(ACCEPTED, 0);
-        }
-        from = end + 1;
-        i += 1;
-    }
+    form.split(is_period).position(|label| label.is_empty())
 }
 
 // 7, 9, 17 and 10, of the first label to which one of them applies.
-fn each_rule(kanji: &[u32], form: &[u32]) -> Answer
-    ensures { result ≡ first (each_rows (today_with kanji.now) 0 (labels form.now)) }
+fn each_rule(edition: &Edition, form: &[u32]) -> Result<(), Refused>
+    ensures { told result ≡ first (each_rows (permits edition.now) 0 (labels form.now)) }
 {
-    let mut from = 0;
-    let mut i = 0;
-    loop {
-        let end = label_end(form, from);
-        let rule = label_rule_with(kanji, IN_FORCE, &form[from..end], LEAST, EVERY_PAIR, i);
-        if rule.number != ACCEPTED {
-            return rule;
-        }
-        if end >= form.len() {
-            return rule;
-        }
-        from = end + 1;
-        i += 1;
+    for (i, label) in form.split(is_period).enumerate() {
+        label_rule_with(edition, label, OF_HOST, i)?;
     }
+    Ok(())
 }
 
-// Whether the coder takes a label, and how many octets its ASCII form then has.
-#[derive(Drop)]
-pub(crate) struct Octets {
-    pub coded: bool,
-    pub count: usize,
-}
-
-// The label is put into a scratch, and its octets are counted.
-fn octets_of(kanji: &[u32], label: &[u32]) -> Octets
-    requires { writable (today_with kanji.now) label.now ≡ true }
-    ensures { Counts (today_with kanji.now) label.now result }
+// How many octets the ASCII form of a label has, if the coder takes it: it is put into a scratch, and they are counted.
+fn octets_of(edition: &Edition, label: &[u32]) -> Option<usize>
+    requires { writable (permits edition.now) label.now ≡ true }
+    ensures { result ≡ octets (permits edition.now) label.now }
 {
-    let mut scratch = [0u8; 63];
-    let put = label_form(label, &mut scratch);
-    Octets {
-        coded: put.number == ACCEPTED,
-        count: put.length,
-    }
+    let mut scratch = [0; 63];
+    label_form(label, &mut scratch).ok()
 }
 
 // 19, of a count of octets.
-fn total_rule(total: usize) -> Answer
-    ensures { result ≡ first (total_row total ∷ []) }
+fn total_rule(total: usize) -> Result<(), Refused>
+    ensures { told result ≡ first (total_row total ∷ []) }
 {
     if MOST < total {
-        return refused(OVER_253, 0);
+        return Err(Refusal::Over253.at(0));
     }
-    refused(ACCEPTED, 0)
+    Ok(())
 }
 
 // 14 and 19: the octets of all labels and of the periods between them are counted before any is written.
-fn coded_rule(kanji: &[u32], form: &[u32]) -> Answer
-    requires { (all_of (writable (today_with kanji.now)) (labels form.now) ≡ true) × (length form.now ≤ 256) }
-    ensures { result ≡ first (coded_rows (today_with kanji.now) form.now) }
+fn coded_rule(edition: &Edition, form: &[u32]) -> Result<(), Refused>
+    requires { (all_of (writable (permits edition.now)) (labels form.now) ≡ true) × (length form.now ≤ 256) }
+    ensures { told result ≡ first (coded_rows (permits edition.now) form.now) }
 {
-    let mut from = 0;
-    let mut i = 0;
+    // with a period after each label
     let mut total = 0;
-    loop {
-        let end = label_end(form, from);
-        let octets = octets_of(kanji, &form[from..end]);
-        if !octets.coded {
-            return refused(OVER_63, i);
-        }
-        total += octets.count;
-        if end >= form.len() {
-            return total_rule(total);
-        }
-        total += 1;
-        from = end + 1;
-        i += 1;
+    for (i, label) in form.split(is_period).enumerate() {
+        let Some(octets) = octets_of(edition, label) else {
+            return Err(Refusal::Over63.at(i));
+        };
+        total += octets + 1;
     }
+    total_rule(total - 1)
 }
 
 // 5 to 19, of a form that holds nothing unfit.
-pub(crate) fn host_rules(kanji: &[u32], form: &[u32]) -> Answer
-    requires { (any_of (unfit (today_with kanji.now)) form.now ≡ false) × (length form.now ≤ 256) }
-    ensures { result ≡ first (host_rows (today_with kanji.now) (labels form.now) ++ coded_rows (today_with kanji.now) form.now) }
+pub(crate) fn host_rules(edition: &Edition, form: &[u32]) -> Result<(), Refused>
+    requires { (any_of (unfit (permits edition.now)) form.now ≡ false) × (length form.now ≤ 256) }
+    ensures { told result ≡ first (host_rows (permits edition.now) (labels form.now) ++ coded_rows (permits edition.now) form.now) }
 {
     if few_labels(form) {
-        return refused(LABEL_COUNT, 0);
+        return Err(Refusal::LabelCount.at(0));
     }
-    let empty = empty_rule(form);
-    if empty.number != ACCEPTED {
-        return empty;
+    if let Some(i) = first_empty(form) {
+        return Err(Refusal::EmptyLabel.at(i));
     }
-    let each = each_rule(kanji, form);
-    if each.number != ACCEPTED {
-        return each;
-    }
-    coded_rule(kanji, form)
+    each_rule(edition, form)?;
+    coded_rule(edition, form)
 }

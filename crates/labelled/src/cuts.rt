@@ -1,40 +1,24 @@
 // Where the labels of a form end: the periods are looked for from the left, up to the third.
-ghost use Rattle.std.specs.Prelude.{◌≡◌};
-ghost use Rattle.labelled.specs.Cuts.{ends};
+ghost use Rattle.std.specs.Prelude.{◌≡◌, length};
+ghost use Rattle.labelled.specs.Cuts.{cut_told, ends};
 
-use crate::Ends;
+use crate::Cut;
 use labels::label_end;
 
-pub fn label_ends(form: &[u32]) -> Ends
-    ensures { result ≡ ends form.now }
+pub fn label_ends(form: &[u32]) -> Cut
+    ensures { cut_told (length form.now) result ≡ ends form.now }
 {
     let n = form.len();
     let first = label_end(form, 0);
     if first >= n {
-        return Ends {
-            count: 1,
-            first,
-            second: n,
-        };
+        return Cut::One;
     }
     let second = label_end(form, first + 1);
     if second >= n {
-        return Ends {
-            count: 2,
-            first,
-            second,
-        };
+        return Cut::Two(first);
     }
     if label_end(form, second + 1) >= n {
-        return Ends {
-            count: 3,
-            first,
-            second,
-        };
+        return Cut::Three(first, second);
     }
-    Ends {
-        count: 4,
-        first,
-        second,
-    }
+    Cut::More(first, second)
 }

@@ -7,30 +7,21 @@ mod cuts;
 mod verdicts;
 
 pub use cuts::label_ends;
+use rules::Asks;
 pub use verdicts::name_rules_with;
-
-// The numbers that are answered here (document 01), besides 7 to 10 and 17, which are a label's.
-const ACCEPTED: u8 = 0;
-
-pub const LABEL_COUNT: u8 = 5;
-
-pub const EMPTY_LABEL: u8 = 6;
-
-pub const NOT_JP: u8 = 11;
-
-pub const NOT_PREFECTURE: u8 = 12;
 
 // What a name asks of its leftmost label: an ASCII one has so many characters at least, and hyphens in the third and fourth places are
 // refused in an ASCII one, not in every one.
-pub const LEAST: usize = 3;
+pub const OF_NAME: Asks = Asks {
+    least: 3,
+    every_pair: false,
+};
 
-pub const EVERY_PAIR: bool = false;
-
-// How many labels a form has, 4 for more than three; and where the first and the second of them end, the form's end where there is no
-// second.
-#[derive(Clone, Copy)]
-pub struct Ends {
-    pub count: usize,
-    pub first: usize,
-    pub second: usize,
+// How many labels a form has; and where the first and the second of them end, where another follows.
+#[derive(Clone, Copy, PartialEq, Eq, Debug)]
+pub enum Cut {
+    One,
+    Two(usize),
+    Three(usize, usize),
+    More(usize, usize),
 }

@@ -1,115 +1,58 @@
 // What is asked of the labels of a name's form, one after the other: 5 and 6, the leftmost label, the last, the middle one.
-ghost use Rattle.std.specs.Prelude.{◌≡◌, true, ◌∷◌, []};
+ghost use Rattle.std.specs.Prelude.{◌≡◌, length, map};
 ghost use Rattle.rules.specs.Labels.{labels};
-ghost use Rattle.rules.specs.Rules.{by_labels, accepted, refused};
-ghost use Rattle.rules.specs.Editions.{has_prefectures, edition_with};
+ghost use Rattle.rules.specs.Rules.{by_labels};
+ghost use Rattle.rules.specs.Verdicts.{verdict_told};
+ghost use Rattle.rules.specs.Editions.{has_prefectures, permits};
+ghost use Rattle.labelled.specs.Cuts.{MayBe};
 
 use crate::cuts::label_ends;
-use crate::{ACCEPTED, EMPTY_LABEL, EVERY_PAIR, LABEL_COUNT, LEAST, NOT_JP, NOT_PREFECTURE};
+use crate::{Cut, OF_NAME};
+use characters::Edition;
 use endings::{is_jp, is_prefecture};
 use labels::label_rule_with;
-use rules::{Class, Verdict};
+use refusals::{Refusal, Refused};
+use rules::Class;
 
-fn refused(number: u8, place: usize) -> Verdict
-    ensures { result ≡ refused number place }
+// The rules of the labels of a name, 6 to 12 and 17, where there are two, or three and the edition has prefecture names.
+fn labels_rule(edition: &Edition, labels: &[&[u32]]) -> Result<Class, Refused>
+    requires { MayBe edition.now.number (length labels.now) }
+    ensures { verdict_told result ≡ by_labels (permits edition.now) (map (λ label. label.now) labels.now) }
 {
-    Verdict {
-        number,
-        place,
-        class: Class::None,
+    if let Some(place) = labels.iter().position(|label| label.is_empty()) {
+        return Err(Refusal::EmptyLabel.at(place));
     }
-}
-
-fn accepted(class: Class) -> Verdict
-    ensures { result ≡ accepted class }
-{
-    Verdict {
-        number: ACCEPTED,
-        place: 0,
-        class,
+    label_rule_with(edition, labels[0], OF_NAME, 0)?;
+    if !is_jp(labels[labels.len() - 1]) {
+        return Err(Refusal::NotJp.at(0));
     }
-}
-
-// The rules of two labels, 6 to 11 and 17.
-fn two_labels(kanji: &[u32], edition: u32, left: &[u32], last: &[u32]) -> Verdict
-    ensures { result ≡ by_labels (edition_with kanji.now edition) (left.now ∷ last.now ∷ []) }
-{
-    if left.len() == 0 {
-        return refused(EMPTY_LABEL, 0);
+    if labels.len() == 2 {
+        return Ok(Class::General);
     }
-    if last.len() == 0 {
-        return refused(EMPTY_LABEL, 1);
+    if !is_prefecture(edition.number, labels[1]) {
+        return Err(Refusal::NotPrefecture.at(0));
     }
-    let rule = label_rule_with(kanji, edition, left, LEAST, EVERY_PAIR, 0);
-    if rule.number != ACCEPTED {
-        return refused(rule.number, rule.place);
-    }
-    if is_jp(last) {
-        return accepted(Class::General);
-    }
-    refused(NOT_JP, 0)
-}
-
-// The rules of three labels, 6 to 12 and 17, where a name may have three.
-fn three_labels(kanji: &[u32], edition: u32, left: &[u32], middle: &[u32], last: &[u32]) -> Verdict
-    requires { has_prefectures edition ≡ true }
-    ensures { result ≡ by_labels (edition_with kanji.now edition) (left.now ∷ middle.now ∷ last.now ∷ []) }
-{
-    if left.len() == 0 {
-        return refused(EMPTY_LABEL, 0);
-    }
-    if middle.len() == 0 {
-        return refused(EMPTY_LABEL, 1);
-    }
-    if last.len() == 0 {
-        return refused(EMPTY_LABEL, 2);
-    }
-    let rule = label_rule_with(kanji, edition, left, LEAST, EVERY_PAIR, 0);
-    if rule.number != ACCEPTED {
-        return refused(rule.number, rule.place);
-    }
-    let ends_in_jp = is_jp(last);
-    if !ends_in_jp {
-        return refused(NOT_JP, 0);
-    }
-    if is_prefecture(edition, middle) {
-        return accepted(Class::Prefecture);
-    }
-    refused(NOT_PREFECTURE, 0)
+    Ok(Class::Prefecture)
 }
 
 // Editions 1 and 2 have no prefecture names.
+#[tactic(auto, unfolding(lists::specs::Tests::within))]
 fn has_prefectures(edition: u32) -> bool
     ensures { result ≡ has_prefectures edition }
 {
-    if edition == 1 {
-        return false;
-    }
-    edition != 2
+    !matches!(edition, 1..=2)
 }
 
 // The rules of the labels of a form, 5 to 12 and 17.
-pub fn name_rules_with(kanji: &[u32], edition: u32, form: &[u32]) -> Verdict
-    ensures { result ≡ by_labels (edition_with kanji.now edition) (labels form.now) }
+#[tactic(auto, using(crate::proofs::Cutting::two_within, crate::proofs::Cutting::three_first, crate::proofs::Cutting::three_within))]
+pub fn name_rules_with(edition: &Edition, form: &[u32]) -> Result<Class, Refused>
+    ensures { verdict_told result ≡ by_labels (permits edition.now) (labels form.now) }
 {
-    let n = form.len();
-    let ends = label_ends(form);
-    let a = ends.first;
-    let b = ends.second;
-    if ends.count == 2 {
-        return two_labels(kanji, edition, &form[0..a], &form[a + 1..n]);
-    }
-    if ends.count == 3 {
-        if !has_prefectures(edition) {
-            return refused(LABEL_COUNT, 0);
+    match label_ends(form) {
+        Cut::Two(a) => labels_rule(edition, &[&form[..a], &form[a + 1..]]),
+        Cut::Three(a, b) if has_prefectures(edition.number) => {
+            labels_rule(edition, &[&form[..a], &form[a + 1..b], &form[b + 1..]])
         }
-        return three_labels(
-            kanji,
-            edition,
-            &form[0..a],
-            &form[a + 1..b],
-            &form[b + 1..n],
-        );
+        _ => Err(Refusal::LabelCount.at(0)),
     }
-    refused(LABEL_COUNT, 0)
 }

@@ -9,20 +9,22 @@ use native.Mathlib.Numerals.{add-one}
 use native.Mathlib.Omega.{arith}
 use lib.ListN.{length, drop, get_or, drop_of_length-le}
 use lib.Seq.{drop-cons}
+use Rattle.std.specs.Prelude.{Option, None as nothing, Some, is_some}
 use Rattle.lists.specs.Tests.{all_of, any_of}
 use Rattle.lists.proofs.Laws.{clash, or_swap, any_or}
 use Rattle.lists.proofs.Scan.{all_here, all_on, all_end}
 use Rattle.characters.specs.Characters.{ascii_set, kind_letter, any_kind, kind_with}
-use Rattle.characters.specs.declared.Kind.{Kind}
-use Rattle.characters.specs.declared.Kind.TheVariants.{Hiragana, Katakana, Kanji, Sign, None}
+use Rattle.characters.specs.declared.Kind as one
+use Rattle.characters.specs.Kinds.{Kind, Hiragana, Katakana, Kanji, Sign, None, kind_told}
+use Rattle.characters.specs.declared.Edition.{Edition}
 use Rattle.characters.proofs.Bounds.{with_below}
+use Rattle.characters.proofs.OneKind.{some_is}
 use Rattle.rules.specs.Permits.{Permits, ja_char, label_char}
 use Rattle.rules.specs.Kinds.{same_kind, found, kinds_in, no_kinds, any_found}
 use Rattle.rules.specs.Rules.{is_japanese}
-use Rattle.rules.specs.Editions.{edition_with}
+use Rattle.rules.specs.Editions.{edition_with, permits}
 use Rattle.rules.specs.declared.Kinds.{Kinds}
-use Rattle.labels.specs.Held.{unfit_held, held_in}
-use Rattle.labels.specs.declared.Held.{Held}
+use Rattle.labels.specs.Held.{Held, unfit_held, held_in}
 use Rattle.labels.proofs.OfLabel.{in_ascii, in_japanese}
 
 -- ---- two finds together
@@ -67,9 +69,9 @@ none_kind None e = refl
 
 -- ---- a label, read up to i
 
-module _ (table : List ℕ) (edition : ℕ) (label : List ℕ) where
+module _ (E : Edition) (label : List ℕ) where
   abbrev Q : Permits
-  Q = edition_with table edition
+  Q = permits E
 
   pub record HeldSoFar (ks : Kinds) (i : ℕ) : Type 0 where
     pub inside : i ≤ length label
@@ -101,23 +103,26 @@ module _ (table : List ℕ) (edition : ℕ) (label : List ℕ) where
         pub ascii_on : a ≡ true → HeldSoFar ks (i + 1)
         unfolding together only same_kind kind_letter
         ascii_on t =
-            let k : Q.kind c ≡ None = unfold edition_with in none_kind (kind_with table edition c) (with_below table edition c (omega arith)) in
-            rw k at (next (sym (in_ascii table edition c l e) ∙ t))
+            let k : Q.kind c ≡ None = unfold edition_with in none_kind (kind_with E.kanji.now E.number c) (with_below E.kanji.now E.number c (omega arith)) in
+            rw k at (next (sym (in_ascii E c l e) ∙ t))
 
         pub ascii_not : a ≡ false → unfit_held ≡ held_in Q label
         unfolding held_in
-        ascii_not t = rw (← all_here (label_char Q) label i h s.fits (in_ascii table edition c l e) t)
+        ascii_not t = rw (← all_here (label_char Q) label i h s.fits (in_ascii E c l e) t)
 
       -- from 80 on
-      module _ (l : 0x80 ≤ c) {k : Kind} (e : k ≡ kind_with table edition c) where
-        pub kind_on : any_kind k ≡ true → HeldSoFar (together (only k) ks) (i + 1)
-        kind_on t =
-            let d : Q.kind c ≡ k = unfold edition_with in sym e in
-            rw d at (next (sym (in_japanese table edition c l e refl) ∙ t))
+      module _ (l : 0x80 ≤ c) (o : Option one.Kind) (e : kind_told o ≡ kind_with E.kanji.now E.number c) where
+        allowed : is_some o ≡ label_char Q c
+        allowed = in_japanese E c l (some_is o ∙ ap any_kind e)
 
-        pub kind_not : any_kind k ≡ false → unfit_held ≡ held_in Q label
+        pub kind_on : {k : one.Kind} → o ≡ Some k → HeldSoFar (together (only (kind_told (Some k))) ks) (i + 1)
+        kind_on {k} p =
+            let d : Q.kind c ≡ kind_told (Some k) = unfold edition_with in sym e ∙ ap kind_told p in
+            rw d at (next (sym allowed ∙ ap is_some p))
+
+        pub kind_not : o ≡ nothing → unfit_held ≡ held_in Q label
         unfolding held_in
-        kind_not t = rw (← all_here (label_char Q) label i h s.fits (in_japanese table edition c l e refl) t)
+        kind_not p = rw (← all_here (label_char Q) label i h s.fits allowed (ap is_some p))
 
     pub all_seen : length label ≤ i → ◌≡◌ {A = Held} (record { fit = true; kinds = ks }) (held_in Q label)
     unfolding held_in kinds_in found any_of

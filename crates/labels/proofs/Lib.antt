@@ -1,2 +1,3 @@
+pub mod Searching
 pub mod OfLabel
 pub mod Holding

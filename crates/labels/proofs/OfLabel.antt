@@ -1,83 +1,47 @@
 -- What is asked of a label, test by test: each return of the code is one row of the rules, or one case of a test.
 -- Assumes nothing.
 use mathlib.Core.Path.{◌≡◌, refl, sym, ap, ◌∙◌}
-use mathlib.Core.Bool.{Bool, true, false, not, ◌&&◌, ◌||◌, or-false, and-false}
+use mathlib.Core.Bool.{Bool, true, false, not, ◌&&◌, ◌||◌, or-false}
 use mathlib.Core.List.{List, [], ◌∷◌}
 use Prim.Native.Nat.{ℕ, ◌-◌, ◌≤◌, ◌<◌}
 use native.Mathlib.Omega.{arith}
 use lib.Dec.{eqb, ltb}
-use lib.ListN.{length, get_or, get_or-eq_default}
-use borrow.Author.Tests.{eq-eqb, ne_eqb, eqb-true, eqb-false}
+use lib.ListN.{length, get_or}
+use borrow.Author.Tests.{lt-ltb, eq-eqb, ne_eqb, eqb-true, eqb-false}
 use Rattle.lists.specs.Tests.{pick, within, any_of, elem}
-use Rattle.lists.specs.Rows.{row, first}
-use Rattle.lists.specs.declared.Answer.{Answer}
-use Rattle.lists.proofs.Laws.{or_left, or_right, clash, any_weaker}
+use Rattle.lists.specs.Rows.{row, first, Answer}
+use Rattle.lists.proofs.Laws.{clash, any_weaker}
 use Rattle.lists.proofs.Tables.{clear, hit, passed_over}
 use Rattle.characters.specs.Characters.{ascii_set, hyphen, kinds, signs, stretch, kind_among, kind_by, any_kind, kanji_with, kind_with}
-use Rattle.characters.specs.declared.Kind.{Kind}
+use Rattle.characters.specs.declared.Edition.{Edition}
 use Rattle.characters.proofs.Bounds.{with_below}
 use Rattle.characters.proofs.OneKind.{sign_is}
-use Rattle.rules.specs.Labels.{period}
 use Rattle.rules.specs.Permits.{Permits, ja_char, label_char}
-use Rattle.rules.specs.Rules.{unfit, is_middle_dot, ordinary, is_japanese, begins_with_hyphen, ends_with_hyphen, hyphen_edge, short, long, hyphen_pair, Asks, pretends_as, pretends, bare_dot, label_rows}
-use Rattle.rules.specs.Editions.{edition_with}
+use Rattle.rules.specs.Rules.{is_middle_dot, ordinary, is_japanese, begins_with_hyphen, ends_with_hyphen, hyphen_edge, short, long, pretends_as, pretends, bare_dot, label_rows}
+use Rattle.rules.specs.declared.Asks.{Asks}
+use Rattle.rules.specs.Editions.{edition_with, permits}
 use Rattle.rules.proofs.Sound.{ascii_range}
 use Rattle.rules.proofs.Steps.{edge_at}
 use Rattle.labels.specs.Known.{known_rows}
 
 -- ---- one character
 
-module _ (table : List ℕ) (edition c : ℕ) where
-  pub ja_low : c < 0x3003 → false ≡ ja_char (edition_with table edition) c
+module _ (E : Edition) (c : ℕ) where
+  pub ja_low : c < 0x3003 → false ≡ ja_char (permits E) c
   unfolding ja_char edition_with
-  ja_low h = sym (with_below table edition c h)
+  ja_low h = sym (with_below E.kanji.now E.number c h)
 
-  pub ja_high : {k : Kind} {j : Bool} → k ≡ kind_with table edition c → j ≡ any_kind k → j ≡ ja_char (edition_with table edition) c
-  unfolding ja_char edition_with
-  ja_high e q = q ∙ ap any_kind e
-
-  pub in_ascii : {a : Bool} → c < 0x80 → a ≡ ascii_set c → a ≡ label_char (edition_with table edition) c
+  pub in_ascii : {a : Bool} → c < 0x80 → a ≡ ascii_set c → a ≡ label_char (permits E) c
   unfolding label_char
   in_ascii h e = e ∙ rw (← ja_low (omega arith))
 
-  pub in_japanese : {k : Kind} {j : Bool} → 0x80 ≤ c → k ≡ kind_with table edition c → j ≡ any_kind k → j ≡ label_char (edition_with table edition) c
-  unfolding label_char
-  in_japanese h e q = ja_high e q ∙ go (ascii_set c) refl
+  pub in_japanese : {j : Bool} → 0x80 ≤ c → j ≡ any_kind (kind_with E.kanji.now E.number c) → j ≡ label_char (permits E) c
+  unfolding label_char ja_char edition_with
+  in_japanese h e = e ∙ go (ascii_set c) refl
     where
-      go : (a : Bool) → ascii_set c ≡ a → ja_char (edition_with table edition) c ≡ ja_char (edition_with table edition) c || ascii_set c
+      go : (a : Bool) → ascii_set c ≡ a → any_kind (kind_with E.kanji.now E.number c) ≡ any_kind (kind_with E.kanji.now E.number c) || ascii_set c
       go true p = absurd (let r = ascii_range c p in omega arith)
-      go false p = rw p (sym (or-false (ja_char (edition_with table edition) c)))
-
-module _ (P : Permits) (c : ℕ) where
-  pub fit_period : c ≡ 0x2E → false ≡ unfit P c
-  unfolding unfit period
-  fit_period e = rw (eq-eqb c 0x2E e)
-
-  pub fit_label : {f : Bool} → (c ≡ 0x2E → ⊥) → f ≡ label_char P c → not f ≡ unfit P c
-  unfolding unfit period
-  fit_label h e = rw (ne_eqb c 0x2E h, e)
-
-  excepted : eqb c 0x3006 || (eqb c 0x30FC || is_middle_dot c) ≡ true → false ≡ ordinary P c
-  unfolding ordinary
-  excepted e = rw e (sym (and-false (ja_char P c)))
-
-  pub closing : c ≡ 0x3006 → false ≡ ordinary P c
-  closing e = excepted (or_left (eqb c 0x3006) _ (eq-eqb c 0x3006 e))
-
-  pub prolonged : c ≡ 0x30FC → false ≡ ordinary P c
-  prolonged e = excepted (or_right (eqb c 0x3006) _ (or_left (eqb c 0x30FC) _ (eq-eqb c 0x30FC e)))
-
-  pub dotted : c ≡ 0x30FB → false ≡ ordinary P c
-  unfolding is_middle_dot
-  dotted e = excepted (or_right (eqb c 0x3006) _ (or_right (eqb c 0x30FC) _ (eq-eqb c 0x30FB e)))
-
-  pub others : {j : Bool} → (c ≡ 0x3006 → ⊥) → (c ≡ 0x30FC → ⊥) → (c ≡ 0x30FB → ⊥) → j ≡ ja_char P c → j ≡ ordinary P c
-  unfolding ordinary is_middle_dot
-  others f g h e = e ∙ rw (ne_eqb c 0x3006 f, ne_eqb c 0x30FC g, ne_eqb c 0x30FB h) (go (ja_char P c))
-    where
-      go : (j : Bool) → j ≡ j && true
-      go true = refl
-      go false = refl
+      go false p = rw p (sym (or-false (any_kind (kind_with E.kanji.now E.number c))))
 
 -- ---- the middle dot
 
@@ -105,63 +69,22 @@ module _ (P : Permits) (l : List ℕ) {d : Bool} (e : d ≡ elem 0x30FB l) where
 pub bare_japanese : (P : Permits) (l : List ℕ) {j d : Bool} → j ≡ true → d ≡ bare_dot P l → d ≡ (j && bare_dot P l)
 bare_japanese P l e p = rw e p
 
+pub bare_ascii : (P : Permits) (l : List ℕ) {j : Bool} → j ≡ false → false ≡ (j && bare_dot P l)
+bare_ascii P l e = rw e
+
 -- ---- the two ends
 
-pub no_edge : (l : List ℕ) → length l ≡ 0 → false ≡ hyphen_edge l
-unfolding hyphen_edge begins_with_hyphen ends_with_hyphen
-no_edge [] h = refl
-no_edge (x ∷ xs) h = absurd (omega arith)
-
-module _ (l : List ℕ) (h : length l ≡ 0 → ⊥) where
-  pub edge_first : get_or l 0 0 ≡ 0x2D → true ≡ hyphen_edge l
-  unfolding hyphen
-  edge_first e = rw (edge_at l h, eq-eqb (get_or l 0 0) 0x2D e)
-
-  pub edge_last : (get_or l 0 0 ≡ 0x2D → ⊥) → eqb (get_or l (length l - 1) 0) 0x2D ≡ hyphen_edge l
-  unfolding hyphen
-  edge_last n = rw (edge_at l h, ne_eqb (get_or l 0 0) 0x2D n)
-
--- ---- lengths
-
-pub short_ascii : (n least : ℕ) (j : Bool) → j ≡ false → ltb n least ≡ (not j && ltb n least)
-short_ascii n least j e = rw e
-
-pub long_japanese : (n : ℕ) (j : Bool) → j ≡ true → ltb 15 n ≡ ltb (pick j 15 63) n
-long_japanese n j e = rw e
-
-pub long_ascii : (n : ℕ) (j : Bool) → j ≡ false → ltb 63 n ≡ ltb (pick j 15 63) n
-long_ascii n j e = rw e
-
--- ---- the hyphens in the third and fourth places
-
-module _ (l : List ℕ) where
-  pub no_pair : length l < 4 → false ≡ hyphen_pair l
-  unfolding hyphen_pair hyphen
-  no_pair h = rw (get_or-eq_default l 0 {n = 3} (omega arith)) (sym (and-false (eqb (get_or l 2 0) 0x2D)))
-
-  pub no_third : (get_or l 2 0 ≡ 0x2D → ⊥) → false ≡ hyphen_pair l
-  unfolding hyphen_pair hyphen
-  no_third n = rw (ne_eqb (get_or l 2 0) 0x2D n)
-
-  pub by_fourth : get_or l 2 0 ≡ 0x2D → eqb (get_or l 3 0) 0x2D ≡ hyphen_pair l
-  unfolding hyphen_pair hyphen
-  by_fourth e = rw (eq-eqb (get_or l 2 0) 0x2D e)
-
-pub pair_refused : (l : List ℕ) {p r s : Bool} → p ≡ hyphen_pair l → p ≡ true → r ≡ s → r ≡ (hyphen_pair l && s)
-pair_refused l e t q = q ∙ rw (← e, t)
-
-pub pair_none : (l : List ℕ) {p : Bool} (s : Bool) → p ≡ hyphen_pair l → p ≡ false → false ≡ (hyphen_pair l && s)
-pair_none l s e t = rw (← e, t)
-
-pub ascii_refused : {e : Bool} (j : Bool) → e ≡ false → not j ≡ (e || not j)
-ascii_refused j f = rw f
+pub edge_is : (l : List ℕ) → hyphen_edge l ≡ (ltb 0 (length l) && (eqb (get_or l 0 0) 0x2D || eqb (get_or l (length l - 1) 0) 0x2D))
+unfolding hyphen_edge begins_with_hyphen ends_with_hyphen hyphen
+edge_is [] = refl
+edge_is (x ∷ xs) = rw (lt-ltb 0 (length (x ∷ xs)) (omega arith)) (edge_at (x ∷ xs) (λ e. omega arith))
 
 -- ---- 7 to 10 and 17
 
 -- the middle dot is Japanese, whatever table is lent, in every edition
-pub lent_dot : (table : List ℕ) (edition : ℕ) → ja_char (edition_with table edition) 0x30FB ≡ true
+pub lent_dot : (E : Edition) → ja_char (permits E) 0x30FB ≡ true
 unfolding ja_char edition_with kind_with kinds stretch kind_among kind_by any_kind kanji_with elem any_of signs within
-lent_dot table edition = rw (sign_is edition 0x30FB)
+lent_dot E = rw (sign_is E.number 0x30FB)
 
 -- so an ASCII label has none, and of a label that is what it is taken for the rows are the table's
 module _ (P : Permits) (ja : ja_char P 0x30FB ≡ true) (l : List ℕ) where

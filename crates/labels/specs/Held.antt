@@ -1,10 +1,14 @@
 -- What a label holds: whether a label may hold all of its characters, and, where it may, which kinds of Japanese ones
 -- are found (document 02, K6). That none are told where it may not is our choice.
-use Rattle.std.specs.Prelude.{false, List, ℕ}
+use Rattle.std.specs.Prelude.{Bool, true, false, List, ℕ, Option, Some, None}
 use Rattle.lists.specs.Tests.{pick, all_of}
 use Rattle.rules.specs.Permits.{Permits, label_char}
 use Rattle.rules.specs.Kinds.{kinds_in, no_kinds}
-use Rattle.labels.specs.declared.Held.{Held}
+use Rattle.rules.specs.declared.Kinds.{Kinds}
+
+pub record Held : Type 0 where
+  pub fit : Bool
+  pub kinds : Kinds
 
 unfoldable pub held_in : Permits → List ℕ → Held
 held_in P label =
@@ -14,3 +18,7 @@ held_in P label =
 -- of a label that may not
 abbrev pub unfit_held : Held
 unfit_held = record { fit = false; kinds = no_kinds }
+
+abbrev pub held_told : Option Kinds → Held
+held_told (Some kinds) = record { fit = true; kinds = kinds }
+held_told None = unfit_held

@@ -4,7 +4,8 @@
 use Rattle.std.specs.Prelude.{Bool, ◌&&◌, List, [], ◌∷◌, ℕ}
 use Rattle.lists.specs.Rows.{Row, row}
 use Rattle.rules.specs.Permits.{Permits}
-use Rattle.rules.specs.Rules.{hyphen_edge, short_as, long_as, Asks, pretends_as, bare_dot}
+use Rattle.rules.specs.Rules.{hyphen_edge, short_as, long_as, pretends_as, bare_dot}
+use Rattle.rules.specs.declared.Asks.{Asks}
 
 unfoldable pub known_rows : Permits → Bool → Asks → List ℕ → ℕ → List Row
 known_rows P japanese A l at =

@@ -1,13 +1,11 @@
 -- The fields of a line: document 01, 'The batch'. What the line reader and its callers answer.
-use Rattle.std.specs.Prelude.{Bool, not, ◌&&◌, ◌||◌, List, ℕ, suc, ◌+◌, eqb, ltb, length, take, drop}
+use Rattle.std.specs.Prelude.{Option, Some, None, Bool, not, ◌&&◌, ◌||◌, List, ℕ, suc, ◌+◌, eqb, ltb, length, take, drop}
 use Rattle.std.specs.Borrow.{Bor}
 use Rattle.lists.specs.Tests.{pick, within, all_of, any_of, index_of}
 use Rattle.lines.specs.declared.LineReader.{LineReader}
 use Rattle.lines.specs.declared.Stretch.{Stretch}
 use Rattle.lines.specs.declared.Taken.{Taken}
 use Rattle.lines.specs.declared.TwoFields.{TwoFields}
-use Rattle.lines.specs.declared.Parts.{Parts}
-use Rattle.lines.specs.declared.Parts.TheVariants.{Two, Other}
 
 -- ---- the fields of a line: an id, one tab, a name
 
@@ -55,5 +53,5 @@ fields_of line =
     record { id = id; name = field_at line id.next }
 
 -- of a line with exactly one tab, where it is: the id is what stands before it, the name what stands past it
-unfoldable pub parts_of : List ℕ → Parts
-parts_of line = pick (one_tab line) (Two (index_of tab line)) Other
+unfoldable pub parts_of : List ℕ → Option ℕ
+parts_of line = pick (one_tab line) (Some (index_of tab line)) None

@@ -8,7 +8,7 @@ ghost use Rattle.lists.specs.Tests.{index_of};
 ghost use Rattle.lines.specs.Lines.{lf};
 ghost use Rattle.lines.specs.Fields.{id_byte, good_id, field_at, reader_at, taken_by, fields_of, parts_of};
 
-pub const TAB: u8 = 0x09;
+pub const TAB: u8 = b'\t';
 
 #[derive(Clone, Copy)]
 pub struct LineReader<'a> {
@@ -38,51 +38,35 @@ pub struct TwoFields {
     pub name: Stretch,
 }
 
-// Of a line with exactly one tab, where it is: the id stands before it, the name past it.
-#[derive(Clone, Copy)]
-pub enum Parts {
-    Two(usize),
-    Other,
-}
-
 // The index of the first byte b from `from` on, or the length; `from` itself where it is past the end.
 fn find(s: &[u8], from: usize, b: u8) -> usize
     ensures { result ≡ from + index_of (λ (x : ℕ). eqb x b) (drop from s.now) }
 {
-    let mut i = from;
-    while i < s.len() {
-        if s[i] == b {
-            return i;
-        }
-        i += 1;
+    match s.get(from..) {
+        Some(rest) => from + rest.iter().position(|x| *x == b).unwrap_or(rest.len()),
+        None => from,
     }
-    i
 }
 
 // Where the line that goes on at `from` ends: the index of the first LF from there on, or the length; `from` itself where it is past the end.
+#[tactic(auto, unfolding(crate::specs::Lines::lf))]
 pub fn line_end(s: &[u8], from: usize) -> usize
     ensures { result ≡ from + index_of lf (drop from s.now) }
 {
     find(s, from, b'\n')
 }
 
-// The work: the stretch from `at` up to a tab or the end.
+// The stretch from `at` up to a tab or the end.
+#[tactic(auto, using(crate::proofs::LineFields::next_past, crate::proofs::LineFields::next_at), unfolding(crate::specs::Fields::tab))]
 fn stretch_at(s: &[u8], at: usize) -> Stretch
     ensures { result ≡ field_at s.now at }
 {
     let end = find(s, at, TAB);
-    if end < s.len() {
-        let next = end + 1;
-        return Stretch {
-            start: at,
-            end,
-            next,
-        };
-    }
+    let next = if end < s.len() { end + 1 } else { end };
     Stretch {
         start: at,
         end,
-        next: end,
+        next,
     }
 }
 
@@ -109,8 +93,7 @@ pub fn field<'a>(r: LineReader<'a>) -> Taken<'a>
 pub fn field_at(line: &[u8], at: usize) -> Stretch
     ensures { result ≡ field_at line.now at }
 {
-    let taken = field(LineReader { line, at });
-    taken.field
+    field(LineReader { line, at }).field
 }
 
 // The first two fields of a line, by one reader.
@@ -125,48 +108,26 @@ pub fn fields(line: &[u8]) -> TwoFields
     }
 }
 
-// The two fields of a line with exactly one tab.
-pub fn split(line: &[u8]) -> Parts
+// Of a line with exactly one tab, where it is: the id stands before it, the name past it.
+pub fn split(line: &[u8]) -> Option<usize>
     ensures { result ≡ parts_of line.now }
 {
     let both = fields(line);
     let tab = both.id.end;
-    if line.len() <= tab {
-        return Parts::Other;
-    }
-    let end = both.name.end;
-    if end < line.len() {
-        return Parts::Other;
-    }
-    Parts::Two(tab)
+    let alone = tab < line.len() && line.len() <= both.name.end;
+    alone.then_some(tab)
 }
 
 // An ASCII letter, digit or hyphen.
 fn is_id_byte(b: u8) -> bool
     ensures { result ≡ id_byte b }
 {
-    match b {
-        0x41..=0x5A | 0x61..=0x7A | 0x30..=0x39 | 0x2D => true,
-        _ => false,
-    }
+    b.is_ascii_alphanumeric() || b == b'-'
 }
 
 // Is it 1 to 32 ASCII letters, digits or hyphens?
 pub fn is_id(id: &[u8]) -> bool
     ensures { result ≡ good_id id.now }
 {
-    if id.len() == 0 {
-        return false;
-    }
-    if 32 < id.len() {
-        return false;
-    }
-    let mut i = 0;
-    while i < id.len() {
-        if !is_id_byte(id[i]) {
-            return false;
-        }
-        i += 1;
-    }
-    true
+    (1..=32).contains(&id.len()) && id.iter().all(|b| is_id_byte(*b))
 }

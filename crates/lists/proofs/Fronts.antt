@@ -1,4 +1,4 @@
--- What is written to the start of a buffer: read back, and made by a loop that copies.
+-- What is written to the start of a buffer: read back, and made by a copy.
 -- Assumes nothing.
 use mathlib.Core.Path.{◌≡◌, refl, sym, ◌∙◌}
 use mathlib.Core.List.{List, [], ◌++◌}
@@ -25,23 +25,24 @@ module _ (xs before : List ℕ) where
   unfolding written
   rest = drop_at xs (drop (length xs) before) (length xs) refl
 
--- ---- the loop of a copy
+-- ---- a copy
 
+-- one entry more
 pub copies_next : (to₀ to from : List ℕ) (i : ℕ) → i < length to₀ → i < length from → to ≡ take i from ++ drop i to₀
     → set to i (get_or from i 0) ≡ take (i + 1) from ++ drop (i + 1) to₀
 copies_next to₀ to from i h g e =
     let n : length (take i from) ≡ i = length-take-le i from (omega arith) in
     rw (e, add-one i, drop-cons to₀ i 0 h, take-suc from i 0 g) (set_at (take i from) (get_or to₀ i 0) (drop (suc i) to₀) (get_or from i 0) i n ∙ sym (append_snoc (take i from) _ _))
 
-pub copied : (to₀ to from : List ℕ) (i : ℕ) → i ≡ min (length from) (length to₀) → to ≡ take i from ++ drop i to₀
-    → to ≡ written (take (length to₀) from) to₀
+-- what a copy leaves: as much of `from` as has room, and past it what was there
+pub copied : (to from : List ℕ) (n : ℕ) → n ≡ min (length from) (length to) → take n from ++ drop n to ≡ written (take (length to) from) to
 unfolding written
-copied to₀ to from i h e =
-    e ∙ ⊎_elim
+copied to from n h =
+    ⊎_elim
     (λ l.
-    let k : i ≡ length from = omega arith in
-    rw (k, take_all (length to₀) from (omega arith), take_all (length from) from (omega arith)))
+    let k : n ≡ length from = omega arith in
+    rw (k, take_all (length to) from (omega arith), take_all (length from) from (omega arith)))
     (λ l.
-    let k : i ≡ length to₀ = omega arith in
-    rw (k, length-take-le (length to₀) from l))
-    (lt_or_le (length from) (length to₀))
+    let k : n ≡ length to = omega arith in
+    rw (k, length-take-le (length to) from l))
+    (lt_or_le (length from) (length to))

@@ -5,3 +5,4 @@ pub mod Fronts
 pub mod Pieces
 pub mod Tables
 pub mod Unique
+pub mod Chains

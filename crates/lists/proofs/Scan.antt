@@ -7,25 +7,15 @@ use mathlib.Core.Logic.{⊎_elim}
 use Prim.Native.Nat.{ℕ, suc, ◌+◌, ◌≤◌, ◌<◌}
 use native.Mathlib.Numerals.{add-one}
 use native.Mathlib.Omega.{arith}
-use lib.Dec.{eqb, ltb}
+use lib.Dec.{ltb}
 use lib.ListN.{length, take, drop, get_or, drop_of_length-le}
 use lib.Seq.{drop-cons, split_at}
-use borrow.Author.Tests.{eq-eqb, ne_eqb, lt-ltb, le-ltb, ltb-true}
-use Rattle.lists.specs.Tests.{pick, all_of, any_of, index_of, elem, same}
+use borrow.Author.Tests.{lt-ltb, le-ltb, ltb-true}
+use Rattle.lists.specs.Tests.{pick, all_of, any_of, index_of}
 use Rattle.lists.proofs.Laws.{neither, lt_or_le}
 
 module _ (f : ℕ → Bool) (t : List ℕ) (i : ℕ) where
   module _ (h : i < length t) where
-    any_peel : any_of f (drop i t) ≡ f (get_or t i 0) || any_of f (drop (i + 1) t)
-    unfolding any_of
-    any_peel = rw (add-one, drop-cons t i 0)
-
-    pub any_here : {b : Bool} → any_of f t ≡ any_of f (drop i t) → b ≡ f (get_or t i 0) → b ≡ true → true ≡ any_of f t
-    any_here e p q = sym (e ∙ any_peel ∙ simp (sym p ∙ q))
-
-    pub any_on : {b : Bool} → any_of f t ≡ any_of f (drop i t) → b ≡ f (get_or t i 0) → b ≡ false → any_of f t ≡ any_of f (drop (i + 1) t)
-    any_on e p q = e ∙ any_peel ∙ simp (sym p ∙ q)
-
     all_peel : all_of f (drop i t) ≡ f (get_or t i 0) && all_of f (drop (i + 1) t)
     unfolding all_of
     all_peel = rw (add-one, drop-cons t i 0)
@@ -40,15 +30,8 @@ module _ (f : ℕ → Bool) (t : List ℕ) (i : ℕ) where
     unfolding index_of
     first_peel = rw (add-one, drop-cons t i 0)
 
-    pub first_here : {b : Bool} (n : ℕ) → n ≡ i + index_of f (drop i t) → b ≡ f (get_or t i 0) → b ≡ true → i ≡ n
-    first_here n e p q = omega (arith, simp (sym p ∙ q) at first_peel)
-
     pub first_on : {b : Bool} (n : ℕ) → n ≡ i + index_of f (drop i t) → b ≡ f (get_or t i 0) → b ≡ false → n ≡ i + 1 + index_of f (drop (i + 1) t)
     first_on n e p q = omega (arith, simp (sym p ∙ q) at first_peel)
-
-  pub any_end : length t ≤ i → any_of f t ≡ any_of f (drop i t) → false ≡ any_of f t
-  unfolding any_of
-  any_end h e = sym (e ∙ rw (drop_of_length-le t h))
 
   pub all_end : length t ≤ i → all_of f t ≡ all_of f (drop i t) → true ≡ all_of f t
   unfolding all_of
@@ -66,7 +49,7 @@ below_suc a b =
     (lt_or_le a b)
 
 module _ {A : Type 0} (f : A → Bool) where
-  any_first : (xs : List A) → any_of f xs ≡ ltb (index_of f xs) (length xs)
+  pub any_first : (xs : List A) → any_of f xs ≡ ltb (index_of f xs) (length xs)
   unfolding any_of index_of
   any_first [] = refl
   any_first (x ∷ xs) = go (f x) (any_first xs)
@@ -114,47 +97,3 @@ module _ (f : ℕ → Bool) where
   unfolding any_of index_of
   first_past [] c ys e h = rw h
   first_past (x ∷ xs) c ys e h = let p = neither (f x) (any_of f xs) e in rw p.0 (ap suc (first_past xs c ys p.1 h))
-
--- ---- one number looked for, where the code compares an entry with it
-
-module _ (c : ℕ) (t : List ℕ) (i : ℕ) (h : i < length t) (e : elem c t ≡ elem c (drop i t)) where
-  pub elem_here : get_or t i 0 ≡ c → true ≡ elem c t
-  unfolding elem
-  elem_here p = any_here (eqb c) t i h e refl (eq-eqb c (get_or t i 0) (sym p))
-
-  pub elem_on : (get_or t i 0 ≡ c → ⊥) → elem c t ≡ elem c (drop (i + 1) t)
-  unfolding elem
-  elem_on p = any_on (eqb c) t i h e refl (ne_eqb c (get_or t i 0) (λ q. p (sym q)))
-
-pub elem_end : (c : ℕ) (t : List ℕ) (i : ℕ) → length t ≤ i → elem c t ≡ elem c (drop i t) → false ≡ elem c t
-unfolding elem
-elem_end c t i h e = any_end (eqb c) t i h e
-
--- ---- two lists, entry by entry
-
-pub unlike : (a b : List ℕ) → (length a ≡ length b → ⊥) → false ≡ same a b
-unfolding same
-unlike [] [] h = absurd (h refl)
-unlike [] (y ∷ ys) h = refl
-unlike (x ∷ xs) [] h = refl
-unlike (x ∷ xs) (y ∷ ys) h = go (eqb x y) (unlike xs ys (λ e. h (omega arith)))
-  where
-    go : (t : Bool) → false ≡ same xs ys → false ≡ t && same xs ys
-    go true e = e
-    go false e = refl
-
-module _ (a b : List ℕ) (i : ℕ) (e : same a b ≡ same (drop i a) (drop i b)) where
-  module _ (h : i < length a) (g : i < length b) where
-    same_peel : same (drop i a) (drop i b) ≡ eqb (get_or a i 0) (get_or b i 0) && same (drop (i + 1) a) (drop (i + 1) b)
-    unfolding same
-    same_peel = rw (add-one, drop-cons a i 0 h, drop-cons b i 0 g)
-
-    pub same_no : (get_or a i 0 ≡ get_or b i 0 → ⊥) → false ≡ same a b
-    same_no p = sym (e ∙ same_peel ∙ simp (ne_eqb _ _ p))
-
-    pub same_on : get_or a i 0 ≡ get_or b i 0 → same a b ≡ same (drop (i + 1) a) (drop (i + 1) b)
-    same_on p = e ∙ same_peel ∙ simp (eq-eqb _ _ p)
-
-  pub same_end : length a ≤ i → length b ≤ i → true ≡ same a b
-  unfolding same
-  same_end h g = sym (e ∙ rw (drop_of_length-le a h, drop_of_length-le b g))

@@ -11,7 +11,7 @@ use borrow.Author.Tests.{eqb-true, eqb-false, eq-eqb, ne_eqb, ltb-true, not-true
 use Rattle.lists.specs.Tests.{pick, all_of}
 use Rattle.lists.specs.Front.{written}
 use Rattle.lists.specs.Rows.{Row, row, accepted, says, first, without, Clear, given, Gives}
-use Rattle.lists.specs.declared.Answer.{Answer}
+use Rattle.lists.specs.Rows.{Answer}
 use Rattle.lists.proofs.Fronts.{untouched, front}
 use Rattle.lists.proofs.Laws.{both, clash}
 

@@ -3,7 +3,6 @@
 use Rattle.std.specs.Prelude.{Bool, false, List, [], ◌∷◌, ◌≡◌, ℕ, eqb, length}
 use Rattle.lists.specs.Tests.{pick}
 use Rattle.lists.specs.Front.{written}
-use Rattle.lists.specs.declared.Answer.{Answer}
 
 -- a refusal: its number, when it applies, and its place
 pub record Row : Type 0 where
@@ -13,6 +12,11 @@ pub record Row : Type 0 where
 
 abbrev pub row : ℕ → Bool → ℕ → Row
 row n b p = record { number = n; applies = b; place = p }
+
+-- what a table answers: a number, 0 where nothing is refused, and its place
+pub record Answer : Type 0 where
+  pub number : ℕ
+  pub place : ℕ
 
 -- 0 is accepted
 abbrev pub accepted : Answer

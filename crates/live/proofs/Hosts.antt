@@ -15,8 +15,8 @@ use Rattle.rules.proofs.Minus.{with_hyphens}
 use Rattle.fronts.specs.Fronts.{padded}
 use Rattle.fronts.proofs.Shown.{shown_over, shown_full}
 use Rattle.hosts.specs.Hosts.{rows, host_rules, host_judged, HostForms}
-use Rattle.hosts.specs.declared.HostForm.{HostForm}
-use Rattle.hosts.specs.declared.HostJudged.{HostJudged}
+use Rattle.refusals.specs.Refusals.{Filled}
+use Rattle.hosts.specs.Hosts.{HostJudged}
 use Rattle.hosts.proofs.Demands.{host_says, minus_host_judged}
 use Rattle.live.specs.Live.{fresh, typed}
 use Rattle.live.specs.HostLooks.{host_too_long, host_looked, HostAgrees}
@@ -55,7 +55,7 @@ module _ (P : Permits) where
 
 -- the look after any code points and the call for the ASCII form of that text say the same
 pub look_and_host : (P : Permits) (e : ℕ) (cs : List ℕ) {j : HostJudged} → j ≡ host_looked P (typed (fresh e) cs)
-    → {before after : List ℕ} {r : HostForm} → HostForms P cs before after r → 255 ≤ length before → HostAgrees j r
+    → {before after : List ℕ} {r : Filled} → HostForms P cs before after r → 255 ≤ length before → HostAgrees j r
 look_and_host P e cs look f room =
     let said = host_says P f room in
     record {

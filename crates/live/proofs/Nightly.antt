@@ -17,15 +17,15 @@ use Rattle.rules.specs.Editions.{is_edition, edition_of}
 use Rattle.rules.specs.Permits.{Permits, InStretch, ShortMiddles}
 use Rattle.rules.specs.Places.{places_said, CutsBack}
 use Rattle.rules.specs.Rules.{rules}
-use Rattle.rules.specs.declared.Verdict.{Verdict}
+use Rattle.rules.specs.Verdicts.{Verdict}
 use Rattle.rules.proofs.Steps.{front_3, text_25, text_front}
 use Rattle.rules.proofs.InForce.{unknown_25}
 use Rattle.rules.proofs.Minus.{with_hyphens}
 use Rattle.fronts.specs.Fronts.{shown, padded}
 use Rattle.names.specs.Calls.{judged, check_said, Checks, ascii_said, AsciiForms}
-use Rattle.names.specs.declared.AsciiForm.{AsciiForm}
-use Rattle.names.specs.declared.Checked.{Checked}
-use Rattle.names.specs.declared.Judged.{Judged}
+use Rattle.names.specs.Calls.{AsciiForm}
+use Rattle.names.specs.Calls.{Checked}
+use Rattle.names.specs.Calls.{Judged}
 use Rattle.names.proofs.Demands.{check_says, ascii_says}
 use Rattle.names.proofs.Minus.{minus_judged}
 use Rattle.names.proofs.Placing.{check_places, judge_cuts}

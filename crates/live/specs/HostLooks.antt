@@ -4,8 +4,8 @@
 use Rattle.std.specs.Prelude.{◌≡◌, replicate}
 use Rattle.rules.specs.Permits.{Permits}
 use Rattle.hosts.specs.Hosts.{host_judged}
-use Rattle.hosts.specs.declared.HostForm.{HostForm}
-use Rattle.hosts.specs.declared.HostJudged.{HostJudged}
+use Rattle.refusals.specs.Refusals.{Filled}
+use Rattle.hosts.specs.Hosts.{HostJudged}
 use Rattle.live.specs.Live.{looked_by}
 use Rattle.live.specs.declared.Live.{Live}
 
@@ -17,6 +17,6 @@ unfoldable pub host_looked : Permits → Live → HostJudged
 host_looked P l = looked_by (host_judged P) host_too_long l
 
 -- a look, and what the nightly call for the ASCII form says: the same number and place
-pub record HostAgrees (j : HostJudged) (r : HostForm) : Type 0 where
+pub record HostAgrees (j : HostJudged) (r : Filled) : Type 0 where
   pub number : j.number ≡ r.number
   pub place : j.place ≡ r.place

@@ -3,12 +3,12 @@
 use Rattle.std.specs.Prelude.{Bool, false, List, [], ◌∷◌, ◌≡◌, ℕ, ◌+◌, ltb, take, set, replicate}
 use Rattle.lists.specs.Tests.{pick}
 use Rattle.names.specs.Calls.{judged}
-use Rattle.names.specs.declared.Judged.{Judged}
+use Rattle.names.specs.Calls.{Judged}
 use Rattle.rules.specs.Permits.{Permits}
 use Rattle.rules.specs.Places.{no_places}
 use Rattle.rules.specs.Hopeful.{hopeful}
-use Rattle.rules.specs.declared.Verdict.{Verdict}
-use Rattle.rules.specs.declared.Class.TheVariants.{None}
+use Rattle.rules.specs.Verdicts.{Verdict}
+use Rattle.rules.specs.Verdicts.{None}
 use Rattle.live.specs.declared.Live.{Live}
 
 -- it has read nothing, and is given its edition, any number (document 02, K12)

@@ -2,38 +2,26 @@
 // force, whichever the state was given. Its meaning is defined in specs/HostLooks; that what it shows is what the nightly rules of a host say is proofs/Hosts.
 ghost use Rattle.std.specs.Prelude.{◌≡◌};
 ghost use Rattle.rules.specs.Editions.{today, today_with};
-ghost use Rattle.live.specs.HostLooks.{host_too_long, host_looked};
+ghost use Rattle.hosts.specs.Hosts.{host_told};
+ghost use Rattle.live.specs.HostLooks.{host_looked};
 
-use crate::Live;
-use hosts::HostJudged;
-
-// What is shown from the 257th code point on: 3 at place 256, and no text.
-fn too_long() -> HostJudged
-    ensures { result ≡ host_too_long }
-{
-    HostJudged {
-        number: 3,
-        place: 256,
-        form: [0u32; 256],
-        length: 0,
-    }
-}
+use crate::{Live, no_text};
+use fronts::Judgement;
+use refusals::Refusal;
 
 impl Live {
     // A look, with the table of kanji lent.
-    pub fn look_host_with(self, kanji: &[u32]) -> HostJudged
-        ensures { result ≡ host_looked (today_with kanji.now) self }
+    pub fn look_host_with(self, kanji: &[u32]) -> Judgement<()>
+        ensures { host_told result ≡ host_looked (today_with kanji.now) self }
     {
-        let n = self.count;
-        if 256 < n {
-            return too_long();
+        match self.text.get(..self.count) {
+            Some(text) => hosts::judge_with(kanji, text),
+            None => no_text(Refusal::TooLong.at(256)),
         }
-        let buffer: &[u32] = &self.text;
-        hosts::judge_with(kanji, &buffer[0..n])
     }
 
-    pub fn look_host(self) -> HostJudged
-        ensures { result ≡ host_looked today self }
+    pub fn look_host(self) -> Judgement<()>
+        ensures { host_told result ≡ host_looked today self }
     {
         let kanji = characters::kanji_bits();
         self.look_host_with(&kanji)

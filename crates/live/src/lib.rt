@@ -7,11 +7,18 @@
 
 pub mod host_looks;
 
-ghost use Rattle.std.specs.Prelude.{◌≡◌};
+ghost use Rattle.std.specs.Prelude.{Err, ◌≡◌, replicate};
 ghost use Rattle.rules.specs.Editions.{edition_of, edition_with};
-ghost use Rattle.live.specs.Live.{fresh, stepped, no_text, too_long, looked, hoped};
+ghost use Rattle.names.specs.Calls.{judge_told};
+ghost use Rattle.live.specs.Live.{fresh, stepped, too_long, looked, hoped};
 
-// The edition by which it is judged, any number; the code points typed, and how many: 257 stands for more than 256, however many.
+use characters::Edition;
+use fronts::Judgement;
+use names::Accepted;
+use refusals::{Refusal, Refused};
+
+// The edition by which it is judged, any number; the code points typed, and how many: 257 stands for more than 256, however many. An array
+// with a count, since a state is handed on by value and nothing is allocated.
 #[derive(Clone, Copy)]
 pub struct Live {
     pub edition: u32,
@@ -19,32 +26,26 @@ pub struct Live {
     pub count: usize,
 }
 
-// A refusal that is shown with no label and no text.
-fn no_text(number: u8, place: usize) -> names::Judged
-    ensures { result ≡ no_text number place }
+// A refusal that is shown with no text.
+fn no_text<T>(refused: Refused) -> Judgement<T>
+    ensures { result ≡ record { said = Err refused; form = replicate 256 0; length = 0 } }
 {
-    names::Judged {
-        number,
-        place,
-        class: rules::Class::None,
-        labels: rules::LabelPlaces {
-            count: 0,
-            starts: [0; 3],
-            lengths: [0; 3],
-        },
-        form: [0u32; 256],
+    Judgement {
+        said: Err(refused),
+        form: [0; 256],
         length: 0,
     }
 }
 
 // What is shown from the 257th code point on: 3 at place 256, or 25 where there is no such edition.
-fn too_long(known: bool) -> names::Judged
-    ensures { result ≡ too_long known }
+fn too_long(known: bool) -> Judgement<Accepted>
+    ensures { judge_told result ≡ too_long known }
 {
     if known {
-        return no_text(3, 256);
+        no_text(Refusal::TooLong.at(256))
+    } else {
+        no_text(Refusal::NoEdition.at(0))
     }
-    no_text(names::NO_EDITION, 0)
 }
 
 impl Live {
@@ -54,7 +55,7 @@ impl Live {
     {
         Live {
             edition,
-            text: [0u32; 256],
+            text: [0; 256],
             count: 0,
         }
     }
@@ -62,32 +63,31 @@ impl Live {
     pub fn step(mut self, c: u32) -> Live
         ensures { result ≡ stepped self c }
     {
-        let at = self.count;
-        if at < 256 {
-            self.text[at] = c;
-            self.count = at + 1;
-            self
+        if self.count < 256 {
+            self.text[self.count] = c;
+            self.count += 1;
         } else {
             self.count = 257;
-            self
         }
+        self
     }
 
     // A look, with the table of kanji lent.
-    pub fn look_with(self, kanji: &[u32]) -> names::Judged
-        ensures { result ≡ looked (edition_with kanji.now) self }
+    pub fn look_with(self, kanji: &[u32]) -> Judgement<Accepted>
+        ensures { judge_told result ≡ looked (edition_with kanji.now) self }
     {
-        let n = self.count;
-        let edition = self.edition;
-        if 256 < n {
-            return too_long(names::is_edition(edition));
+        let edition = Edition {
+            kanji,
+            number: self.edition,
+        };
+        match self.text.get(..self.count) {
+            Some(text) => names::judge_with(&edition, text),
+            None => too_long(names::is_edition(self.edition)),
         }
-        let buffer: &[u32] = &self.text;
-        names::judge_with(kanji, edition, &buffer[0..n])
     }
 
-    pub fn look(self) -> names::Judged
-        ensures { result ≡ looked edition_of self }
+    pub fn look(self) -> Judgement<Accepted>
+        ensures { judge_told result ≡ looked edition_of self }
     {
         let kanji = characters::kanji_bits();
         self.look_with(&kanji)
@@ -97,13 +97,14 @@ impl Live {
     pub fn may_become_with(self, kanji: &[u32]) -> bool
         ensures { result ≡ hoped (edition_with kanji.now) self }
     {
-        let n = self.count;
-        let edition = self.edition;
-        if 256 < n {
-            return false;
+        let edition = Edition {
+            kanji,
+            number: self.edition,
+        };
+        match self.text.get(..self.count) {
+            Some(text) => hopes::may_become_with(&edition, text),
+            None => false,
         }
-        let buffer: &[u32] = &self.text;
-        hopes::may_become_with(kanji, edition, &buffer[0..n])
     }
 
     pub fn may_become(self) -> bool

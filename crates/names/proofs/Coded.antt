@@ -12,7 +12,7 @@ use borrow.Author.Tests.{eqb-true, eqb-false, ltb-false, le-ltb, not-true}
 use Rattle.lists.specs.Tests.{within, all_of, any_of}
 use Rattle.lists.specs.Front.{written}
 use Rattle.lists.specs.Rows.{Row, row, first, given}
-use Rattle.lists.specs.declared.Answer.{Answer}
+use Rattle.lists.specs.Rows.{Answer}
 use Rattle.lists.proofs.Laws.{all_not}
 use Rattle.lists.proofs.Tables.{clear, clear_before, refused_before, hit, passed_over, of_rows}
 use Rattle.characters.specs.Characters.{alnum, ascii_set}
@@ -27,7 +27,7 @@ use Rattle.rules.proofs.Editions.{edition_stretch, edition_short}
 use Rattle.ascii.specs.Ascii.{uncoded, ascii_form}
 use Rattle.ascii.proofs.Coded.{label_fine}
 use Rattle.names.specs.Calls.{ascii_rows, AsciiForms}
-use Rattle.names.specs.declared.AsciiForm.{AsciiForm}
+use Rattle.names.specs.Calls.{AsciiForm}
 use Rattle.names.proofs.Enough.{each_label}
 
 module _ (P : Permits) (stretch : InStretch P) where

@@ -11,7 +11,7 @@ use lib.ListN.{length}
 use borrow.Author.Tests.{le-ltb}
 use Rattle.lists.specs.Tests.{within}
 use Rattle.lists.specs.Rows.{Row, first}
-use Rattle.lists.specs.declared.Answer.{Answer}
+use Rattle.lists.specs.Rows.{Answer}
 use Rattle.lists.proofs.Tables.{passed_over}
 use Rattle.normal.specs.Normal.{normal_form}
 use Rattle.rules.specs.Labels.{labels}
@@ -19,14 +19,14 @@ use Rattle.rules.specs.Permits.{Permits, InStretch, ShortMiddles, Laws}
 use Rattle.rules.specs.Rules.{text_rows, verdict, rules, accepted}
 use Rattle.rules.specs.Pretends.{Admitted}
 use Rattle.rules.specs.Editions.{is_edition, edition_of, today}
-use Rattle.rules.specs.declared.Class.{Class}
-use Rattle.rules.specs.declared.Verdict.{Verdict}
+use Rattle.rules.specs.Verdicts.{Class}
+use Rattle.rules.specs.Verdicts.{Verdict}
 use Rattle.rules.proofs.Exactly.{formed, accepted_derives}
 use Rattle.rules.proofs.Editions.{edition_laws}
 use Rattle.names.specs.Calls.{Answers, check_rows, check_said, Checks, ascii_said, AsciiForms}
 use Rattle.names.specs.Steps.{refused_check, refused_form}
-use Rattle.names.specs.declared.AsciiForm.{AsciiForm}
-use Rattle.names.specs.declared.Checked.{Checked}
+use Rattle.names.specs.Calls.{AsciiForm}
+use Rattle.names.specs.Calls.{Checked}
 use Rattle.names.proofs.Answering.{check_25, ascii_25}
 use Rattle.names.proofs.Coded.{ascii_first}
 use Rattle.names.proofs.Unique.{unique}
@@ -92,10 +92,10 @@ module _ (e : ℕ) (unknown : is_edition e ≡ false) where
   not_known = unknown
 
   pub unknown_check : {text before after : List ℕ} {r : Checked} → Checks (edition_of e) text before after r → 256 ≤ length before → (r ≡ refused_check 25 0) × (after ≡ before)
-  unknown_check {text} {before} c room = unique c (check_25 (edition_of e) text before room not_known refl)
+  unknown_check {text} {before} c room = unique c (check_25 (edition_of e) text before room not_known)
 
   pub unknown_ascii : {text before after : List ℕ} {r : AsciiForm} → AsciiForms (edition_of e) text before after r → 192 ≤ length before → (r ≡ refused_form 25 0) × (after ≡ before)
-  unknown_ascii {text} {before} a room = unique a (ascii_25 (edition_of e) text before room not_known refl)
+  unknown_ascii {text} {before} a room = unique a (ascii_25 (edition_of e) text before room not_known)
 
 -- ---- at the edition in force
 

@@ -5,33 +5,35 @@ use mathlib.Core.Path.{◌≡◌, refl, sym, ap, ◌∙◌}
 use mathlib.Core.Bool.{Bool, true, false, not}
 use mathlib.Core.List.{List, [], ◌∷◌, ◌++◌}
 use mathlib.Core.Logic.{⊎_elim}
-use Prim.Native.Nat.{ℕ, ◌-◌, ◌≤◌}
+use Prim.Native.Nat.{ℕ, ◌+◌, ◌≤◌}
 use native.Mathlib.Omega.{arith}
+use Rattle.std.proofs.Common.{Option, Some, None, Ok}
+use Rattle.std.specs.Option.{is_some}
 use lib.ListN.{length, take, drop, get_or, length-append}
 use lib.Seq.{take_at}
 use borrow.Author.Tests.{not-true, not-false}
-use Rattle.lists.specs.Tests.{all_of, any_of, same}
+use Rattle.lists.specs.Tests.{all_of, any_of, index_of, same}
 use Rattle.lists.specs.Front.{written}
 use Rattle.lists.specs.Rows.{Clear}
-use Rattle.lists.proofs.Laws.{both, or_right, first_of, same_is}
+use Rattle.lists.proofs.Laws.{both, clash, or_right, first_of, same_is}
 use Rattle.normal.specs.Normal.{normal_form}
-use Rattle.rules.specs.Labels.{labels}
+use Rattle.rules.specs.Labels.{period, labels}
 use Rattle.rules.specs.Permits.{Permits, ShortMiddles, label_char, middle}
 use Rattle.rules.specs.Rules.{is_japanese, long, of_name, pretends, jp, text_rows}
 use Rattle.rules.specs.Kinds.{kinds_in}
+use Rattle.rules.specs.declared.Class as one
 use Rattle.rules.specs.declared.Kinds.{Kinds}
-use Rattle.labels.specs.Held.{held_in}
+use Rattle.labels.specs.Held.{Held, held_in, held_told}
 use Rattle.rules.proofs.ByName.{Passed, Honest, clear_text}
 use Rattle.rules.proofs.Cuts.{labels_fit}
 use Rattle.rules.proofs.Derived.{left_size, middle_length, two_or_three}
 use Rattle.ascii.specs.Labels.{high}
 use Rattle.ascii.specs.Ascii.{ascii_form, uncoded, writable}
 use Rattle.ascii.proofs.OfNames.{label_writable}
-use Rattle.names.specs.Calls.{AsciiForms}
-use Rattle.names.specs.Steps.{refused_form, Writable, PutsWhere, Judges}
-use Rattle.names.specs.declared.AsciiForm.{AsciiForm}
-use Rattle.names.specs.declared.whole.Put.{Put}
-use Rattle.names.specs.declared.judges.Ruled.{Ruled}
+use Rattle.names.specs.Calls.{ascii_told, AsciiForms}
+use Rattle.names.specs.Steps.{refused_form, Writable, PutsWhere, ruled_told, Judges}
+use Rattle.names.specs.declared.judges.Ruled as code
+use Rattle.names.proofs.Cutting.{leftmost_is}
 use Rattle.names.proofs.Answering.{accepted_as, ascii_uncoded, ascii_accepted}
 
 -- ---- a law of each label of an accepted name
@@ -73,48 +75,57 @@ module _ (P : Permits) (short : ShortMiddles P) (text : List ℕ) where
       (λ l a m. label_writable P l a (λ q. let h = middle_length P short l m in omega arith)) (jp_writable P) text c in
       record { fit = w.0; few = omega (arith, w.1) }
 
-  pub ready : {lent after : List ℕ} {j : Ruled} → Judges P text lent after j → j.number ≡ 0 → Writable P (take (j.length - 0) (drop 0 after)) 192
+  pub ready : {lent after : List ℕ} {j : code.Ruled} → Judges P text lent after (ruled_told j) → {k : one.Class} → j.said ≡ Ok k
+      → Writable P (take j.length after) 192
   ready e z = let p = accepted_as P text e z in rw p.form (accepted_writable p.clear)
 
 -- ---- what the leftmost label of an accepted name holds
 
-leftmost_kinds : (P : Permits) (text : List ℕ) → Clear (text_rows P text)
-    → (held_in P (get_or (labels (normal_form text)) 0 [])).kinds ≡ kinds_in P (get_or (labels (normal_form text)) 0 [])
-unfolding held_in all_of
-leftmost_kinds P text c =
-    rw (first_of (all_of (label_char P)) [] refl (labels (normal_form text)) (labels_fit P (normal_form text) (clear_text P text c).0.fit))
+leftmost_fit : (P : Permits) (text : List ℕ) → Clear (text_rows P text) → all_of (label_char P) (get_or (labels (normal_form text)) 0 []) ≡ true
+unfolding all_of
+leftmost_fit P text c = first_of (all_of (label_char P)) [] refl (labels (normal_form text)) (labels_fit P (normal_form text) (clear_text P text c).0.fit)
+
+-- of what holds only what a label may it is told
+held_there : (P : Permits) (l : List ℕ) → all_of (label_char P) l ≡ true → (r : Option Kinds) → held_told r ≡ held_in P l → r ≡ Some (kinds_in P l)
+unfolding held_in
+held_there P l f (Some ks) e = ap (λ (h : Held). Some h.kinds) e ∙ rw f
+held_there P l f None e = clash f (sym (ap (λ (h : Held). h.fit) e))
+
+pub leftmost_held : (P : Permits) (t : List ℕ) (a : ℕ) → a ≡ 0 + index_of period (drop 0 t) → all_of (label_char P) (get_or (labels t) 0 []) ≡ true
+    → (r : Option Kinds) → held_told r ≡ held_in P (take a t) → r ≡ Some (kinds_in P (get_or (labels t) 0 []))
+leftmost_held P t a s f r e = held_there P _ f r (e ∙ ap (held_in P) (leftmost_is t a s))
 
 -- ---- what is put is the form
 
-module _ (P : Permits) (text : List ℕ) {lent form : List ℕ} {j : Ruled} (e : Judges P text lent form j) (z : j.number ≡ 0) {zeros last : List ℕ} {r : Put}
-    (t : PutsWhere (not (any_of (uncoded P) (labels (take (j.length - 0) (drop 0 form))))) (ascii_form P (take (j.length - 0) (drop 0 form))) zeros last 0 r) where
+module _ (P : Permits) (text : List ℕ) {lent form : List ℕ} {j : code.Ruled} (e : Judges P text lent form (ruled_told j)) {k : one.Class} (z : j.said ≡ Ok k) {zeros last : List ℕ} {r : Option ℕ}
+    (t : PutsWhere (not (any_of (uncoded P) (labels (take j.length form)))) (ascii_form P (take j.length form)) zeros last 0 r) where
+  pub leftmost_passed : all_of (label_char P) (get_or (labels (take j.length form)) 0 []) ≡ true
+  leftmost_passed = let p = accepted_as P text e z in rw p.form (leftmost_fit P text p.clear)
+
   put_form : PutsWhere (not (any_of (uncoded P) (labels (normal_form text)))) (ascii_form P (normal_form text)) zeros last 0 r
   put_form = rw (accepted_as P text e z).form at t
 
-  module _ (y : r.coded ≡ true) where
-    place_is : r.at ≡ length (ascii_form P (normal_form text))
-    place_is = omega (arith, (put_form.put y).place)
+  module _ {n : ℕ} (y : r ≡ Some n) where
+    place_is : n ≡ length (ascii_form P (normal_form text))
+    place_is = omega (arith, (put_form.put n y).place)
 
-    pub put_size : r.at ≤ length last
-    put_size = omega (arith, place_is, ap length (put_form.put y).buffer, length-append (ascii_form P (normal_form text)) (drop r.at zeros))
+    pub put_size : n ≤ length last
+    put_size = omega (arith, place_is, ap length (put_form.put n y).buffer, length-append (ascii_form P (normal_form text)) (drop n zeros))
 
-    piece : take r.at last ≡ ascii_form P (normal_form text)
-    piece = rw (place_is, (put_form.put y).buffer) (take_at (ascii_form P (normal_form text)) _ (length (ascii_form P (normal_form text))) refl)
-
-    pub piece_length : length (take r.at last) ≡ r.at
-    piece_length = ap length piece ∙ sym place_is
+    piece : take n last ≡ ascii_form P (normal_form text)
+    piece = rw (place_is, (put_form.put n y).buffer) (take_at (ascii_form P (normal_form text)) _ (length (ascii_form P (normal_form text))) refl)
 
   module _ (before : List ℕ) (h : 192 ≤ length before) where
-    pub stopped : {a : AsciiForm} → a ≡ refused_form 14 0 → r.coded ≡ false → AsciiForms P text before before a
-    stopped q n =
-        ascii_uncoded P text before h (accepted_as P text e z).clear q (not-false (any_of (uncoded P) (labels (normal_form text))) (sym put_form.coded ∙ n))
+    pub stopped : r ≡ None → AsciiForms P text before before (refused_form 14 0)
+    stopped y =
+        ascii_uncoded P text before h (accepted_as P text e z).clear (not-false (any_of (uncoded P) (labels (normal_form text))) (sym put_form.coded ∙ ap is_some y))
 
-    pub finished : {after : List ℕ} {ks : Kinds} → r.coded ≡ true
-        → after ≡ take r.at last ++ drop r.at before → ks ≡ (held_in P (get_or (labels (take (j.length - 0) (drop 0 form))) 0 [])).kinds
-        → AsciiForms P text before after (record { number = 0; place = 0; class = j.class; kinds = ks; length = r.at })
+    pub finished : {after : List ℕ} {ks : Kinds} {n : ℕ} → r ≡ Some n
+        → after ≡ take n last ++ drop n before → ks ≡ kinds_in P (get_or (labels (take j.length form)) 0 [])
+        → AsciiForms P text before after (ascii_told (Ok (record { class = k; kinds = ks; length = n })))
     unfolding written
-    finished {after} y w f =
+    finished {after} {ks} {n} y w f =
         let p = accepted_as P text e z in
-        ascii_accepted P text before h p.clear (not-true (any_of (uncoded P) (labels (normal_form text))) (sym put_form.coded ∙ y)) p.class
-        (f ∙ ap (λ (l : List ℕ). (held_in P (get_or (labels l) 0 [])).kinds) p.form ∙ leftmost_kinds P text p.clear) (place_is y)
+        ascii_accepted P text before h p.clear (not-true (any_of (uncoded P) (labels (normal_form text))) (sym put_form.coded ∙ ap is_some y)) p.class
+        (f ∙ ap (λ (l : List ℕ). kinds_in P (get_or (labels l) 0 [])) p.form) (place_is y)
         (w ∙ rw (piece y, place_is y))

@@ -8,13 +8,13 @@ use lib.ListN.{length}
 use Rattle.lists.specs.Rows.{Row}
 use Rattle.rules.specs.Labels.{labels}
 use Rattle.rules.specs.Permits.{Permits}
-use Rattle.rules.specs.declared.Verdict.{Verdict}
+use Rattle.rules.specs.Verdicts.{Verdict}
 use Rattle.rules.proofs.Minus.{with_hyphens, minus_length, minus_form, minus_rows, minus_rules}
 use Rattle.fronts.specs.Fronts.{shown}
 use Rattle.ascii.specs.Ascii.{ascii_form}
 use Rattle.names.specs.Calls.{judged, Answers, checked, check_rows, Checks, ascii_formed, ascii_rows, AsciiForms}
-use Rattle.names.specs.declared.AsciiForm.{AsciiForm}
-use Rattle.names.specs.declared.Checked.{Checked}
+use Rattle.names.specs.Calls.{AsciiForm}
+use Rattle.names.specs.Calls.{Checked}
 
 -- a call that writes, with the same struct, the same rows and the same to write
 answers_alike : {R : Type 0} {make make' : Verdict → ℕ → R} {rows rows' : List Row} {xs xs' before after : List ℕ} {r : R} (t : List ℕ)

@@ -10,7 +10,7 @@ use Prim.Native.Nat.{ℕ}
 use lib.ListN.{length, take}
 use Rattle.lists.specs.Tests.{within, all_of, any_of, elem, same}
 use Rattle.lists.specs.Rows.{first, Clear}
-use Rattle.lists.specs.declared.Answer.{Answer}
+use Rattle.lists.specs.Rows.{Answer}
 use Rattle.lists.proofs.Laws.{clash, all_not, same_refl}
 use Rattle.lists.proofs.Tables.{clear, gave_front}
 use Rattle.characters.specs.KanjiBits.{kanji_bits}
@@ -22,9 +22,9 @@ use Rattle.rules.specs.Permits.{Permits, InStretch, ShortMiddles, Laws, ja_char,
 use Rattle.rules.specs.Rules.{of_name, jp, text_rows, verdict, rules, rules_but}
 use Rattle.rules.specs.Pretends.{seems_encoded, PlainMiddles}
 use Rattle.rules.specs.Editions.{edition_of, edition_with, today}
-use Rattle.rules.specs.declared.Class.{Class}
-use Rattle.rules.specs.declared.Class.TheVariants.{General}
-use Rattle.rules.specs.declared.Verdict.{Verdict}
+use Rattle.rules.specs.Verdicts.{Class}
+use Rattle.rules.specs.Verdicts.{General}
+use Rattle.rules.specs.Verdicts.{Verdict}
 use Rattle.rules.proofs.ByName.{clear_text, text_cleared}
 use Rattle.rules.proofs.Cuts.{labels_fit}
 use Rattle.rules.proofs.Derived.{of_middle}
@@ -36,7 +36,7 @@ use Rattle.ascii.proofs.OneForm.{Unmistaken, form_ascii}
 use Rattle.ascii.proofs.OneForm as Ascii
 use Rattle.names.specs.Calls.{ascii_rows, AsciiForms, Coded, FormGiven}
 use Rattle.names.specs.Shared.{Share, general, shared, twins, shared_middles}
-use Rattle.names.specs.declared.AsciiForm.{AsciiForm}
+use Rattle.names.specs.Calls.{AsciiForm}
 use Rattle.names.proofs.Answering.{ascii_passed}
 use Rattle.names.proofs.Coded.{no_14}
 use Rattle.names.proofs.Enough.{each_label}

@@ -13,7 +13,7 @@ use lib.Seq.{take-append_seam}
 use borrow.Author.Tests.{eqb-true, ne_eqb}
 use Rattle.lists.specs.Tests.{pick, all_of}
 use Rattle.lists.specs.Rows.{first, given, Clear}
-use Rattle.lists.specs.declared.Answer.{Answer}
+use Rattle.lists.specs.Rows.{Answer}
 use Rattle.lists.proofs.Fronts.{front}
 use Rattle.lists.proofs.Tables.{refusing, accepted_clear}
 use Rattle.characters.specs.KanjiBits.{kanji_bits}
@@ -23,7 +23,7 @@ use Rattle.rules.specs.Permits.{Permits}
 use Rattle.rules.specs.Places.{label_places, no_places, places_said, label_count, CutsBack}
 use Rattle.rules.specs.Editions.{today}
 use Rattle.rules.specs.Rules.{label_rows, name_rows, front_rows, text_rows, class_of, verdict, rules}
-use Rattle.rules.specs.declared.Class.TheVariants.{None}
+use Rattle.rules.specs.Verdicts.{None}
 use Rattle.rules.proofs.ByName.{clear_text, text_cleared}
 use Rattle.rules.proofs.Places.{cuts_back, absent_zero}
 use Rattle.rules.proofs.Editions.{lending}
@@ -31,7 +31,7 @@ use Rattle.fronts.specs.Fronts.{shown, padded}
 use Rattle.fronts.proofs.Shown.{shown_full}
 use Rattle.names.specs.Calls.{judged, check_rows, Checks}
 use Rattle.names.specs.Placed.{AsPlaced, as_placed}
-use Rattle.names.specs.declared.Checked.{Checked}
+use Rattle.names.specs.Calls.{Checked}
 use Rattle.names.proofs.Answering.{few_labels}
 
 -- ---- any answer

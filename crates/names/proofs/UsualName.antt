@@ -2,22 +2,29 @@
 -- the text is its own normal form, its labels are the two, and only 7 to 10 and 17 can apply; that 14 never comes (proofs/Coded) is not needed.
 -- Assumes nothing.
 use mathlib.Core.Path.{◌≡◌, refl, sym, ap, ◌∙◌}
-use mathlib.Core.Bool.{Bool, true, false, not, ◌&&◌, ◌||◌, or-false, or-true, and-true}
+use mathlib.Core.Bool.{Bool, true, false, not, ◌||◌, or-false, or-true}
 use mathlib.Core.List.{List, [], ◌∷◌, ◌++◌}
-use Prim.Native.Nat.{ℕ, suc, ◌+◌, ◌-◌, ◌≤◌, ◌<◌}
-use native.Mathlib.Numerals.{add-one, add-two}
+use Prim.Native.Nat.{ℕ, ◌+◌, ◌-◌, ◌≤◌}
 use native.Mathlib.Omega.{arith}
 use lib.Dec.{eqb}
-use lib.ListN.{length, take, drop, get_or, set, length-append, take-append-drop, drop_of_length-le}
-use lib.Seq.{drop-cons}
-use borrow.Author.Tests.{eqb-false, eq-eqb, ne_eqb, not-true, not-false}
+use Rattle.std.proofs.Common.{Option, Some, None, Err}
+use Rattle.std.specs.Option.{is_some}
+use lib.ListN.{length, take, drop, length-append, take-append-drop}
+use borrow.Author.Tests.{eqb-false, not-true, not-false}
+use Rattle.std.proofs.Common.{Bor}
+use Rattle.std.specs.Option.{MatchOption}
+use Rattle.std.specs.Cmp.Lexicographic.{pointwise}
+use Rattle.lists.proofs.Chains.{same_is as ending_is}
 use Rattle.lists.specs.Tests.{within, all_of, any_of, elem, same}
 use Rattle.lists.specs.Front.{written}
-use Rattle.lists.specs.Rows.{first, Clear}
-use Rattle.lists.specs.declared.Answer.{Answer}
-use Rattle.lists.proofs.Laws.{either, both, or_right, inside, outside, in_range, all_append, all_weaker, all_none, differs, same_refl, same_is}
+use Rattle.lists.specs.Rows.{Answer, accepted as taken, first, Clear}
+use Rattle.lists.proofs.Laws.{either, both, or_right, in_range, all_append, all_weaker, all_none, differs, same_refl, same_is}
 use Rattle.lists.proofs.Pieces.{then}
+use Rattle.refusals.specs.Refusals.{refusal_told}
+use Rattle.refusals.specs.declared.Refused.{Refused}
+use Rattle.refusals.proofs.Once.{number_not_0}
 use Rattle.characters.specs.Characters.{alnum, hyphen, ascii_set, kinds, signs, stretch, kind_among, kind_by, any_kind, kanji_with, kind_with}
+use Rattle.characters.specs.declared.Edition.{Edition}
 use Rattle.characters.specs.Replace.{ranges, range_in, is_half, replace_in, replace}
 use Rattle.characters.proofs.Classes.{stays, ascii_stays}
 use Rattle.characters.proofs.OneKind.{sign_is}
@@ -25,28 +32,25 @@ use Rattle.normal.specs.Normal.{normal_form}
 use Rattle.normal.proofs.Unchanged.{unchanged, unchanged_by, unchanged_form}
 use Rattle.rules.specs.Labels.{period, into_first, labels, join}
 use Rattle.rules.specs.Permits.{Permits, InStretch, ShortMiddles, ja_char, label_char, is_empty}
-use Rattle.rules.specs.Rules.{unfit, is_japanese, of_name, label_rows, jp, text_rows, class_of, verdict, by_labels, rules, accepted, refused}
+use Rattle.rules.specs.Rules.{unfit, is_japanese, of_name, label_rows, jp, text_rows, class_of, verdict, by_labels, rules, accepted}
 use Rattle.rules.specs.Kinds.{any_found}
-use Rattle.rules.specs.Editions.{edition_with}
-use Rattle.rules.specs.declared.Class.TheVariants.{General}
+use Rattle.rules.specs.Editions.{edition_with, permits}
+use Rattle.rules.specs.Verdicts.{General}
 use Rattle.rules.specs.declared.Kinds.{Kinds}
-use Rattle.rules.specs.declared.Verdict.{Verdict}
+use Rattle.rules.specs.Verdicts.{Verdict}
 use Rattle.rules.proofs.ByName.{text_cleared}
 use Rattle.rules.proofs.Cuts.{labels_cut}
 use Rattle.rules.proofs.Derived.{no_period}
 use Rattle.rules.proofs.Sound.{low}
 use Rattle.rules.proofs.Steps.{front_0, text_on, name_left, name_0}
 use Rattle.labels.specs.Known.{known_rows}
-use Rattle.labels.specs.Held.{held_in}
-use Rattle.labels.specs.declared.Held.{Held}
+use Rattle.labels.specs.Held.{Held, held_in, held_told}
 use Rattle.labels.proofs.OfLabel.{lent_dot, rows_are}
 use Rattle.labels.proofs.Holding.{any_found_lem}
 use Rattle.ascii.specs.Ascii.{ascii_label, ascii_form, uncoded, writable}
 use Rattle.ascii.proofs.OfNames.{label_size}
-use Rattle.names.specs.Calls.{AsciiForms}
-use Rattle.names.specs.Steps.{refused_form, PutsOrKeeps, UsualLabel, dot_jp, ends_in_jp}
-use Rattle.names.specs.declared.AsciiForm.{AsciiForm}
-use Rattle.names.specs.declared.whole.Put.{Put}
+use Rattle.names.specs.Calls.{AsciiForm, ascii_told, AsciiForms}
+use Rattle.names.specs.Steps.{refused_form, PutsOrKeeps, UsualLabel, EndsInJp, dot_jp, ends_in_jp}
 use Rattle.names.proofs.Answering.{ascii_refused, ascii_uncoded, ascii_accepted}
 use Rattle.names.proofs.Enough.{accepted_writable}
 use Rattle.names.proofs.Joining.{put_jp}
@@ -60,9 +64,9 @@ pub record Marks (P : Permits) : Type 0 where
   pub half_voiced_lem : label_char P 0x309C ≡ false
   pub dot : ja_char P 0x30FB ≡ true
 
-pub lent_marks : (table : List ℕ) (edition : ℕ) → Marks (edition_with table edition)
+pub lent_marks : (E : Edition) → Marks (permits E)
 unfolding ja_char label_char edition_with kind_with kinds stretch kind_among kind_by any_kind kanji_with elem any_of signs ascii_set alnum hyphen within
-lent_marks table edition = record { voiced = rw (sign_is edition 0x309B); half_voiced_lem = rw (sign_is edition 0x309C); dot = lent_dot table edition }
+lent_marks E = record { voiced = rw (sign_is E.number 0x309B); half_voiced_lem = rw (sign_is E.number 0x309C); dot = lent_dot E }
 
 module _ (P : Permits) (stretch : InStretch P) where
   jp_fits : all_of (label_char P) jp ≡ true
@@ -88,67 +92,36 @@ module _ (P : Permits) (stretch : InStretch P) where
 
 -- ---- ".jp" at the end of a text
 
-module _ (text : List ℕ) where
-  pub too_few : length text < 4 → false ≡ ends_in_jp text
+pub by_length : (text : List ℕ) → within 4 256 (length text) ≡ false → ends_in_jp text ≡ false
+unfolding ends_in_jp
+by_length text e = rw e
+
+pub by_ending : (text : List ℕ) → within 4 256 (length text) ≡ true → (r : Option (Bor (List ℕ)))
+    → MatchOption r (pointwise eqb (drop (length text - 3) text) (0x2E ∷ 0x6A ∷ 0x70 ∷ []) ≡ false)
+    (λ x. (pointwise eqb (drop (length text - 3) text) (0x2E ∷ 0x6A ∷ 0x70 ∷ []) ≡ true) × (x.now ≡ take (length text - 3) text) × (length x.now + 3 ≡ length text))
+    → MatchOption r (ends_in_jp text ≡ false) (λ label. EndsInJp text label.now)
+unfolding ends_in_jp jp
+by_ending text e None m = rw e (sym (ending_is _ _) ∙ m)
+by_ending text e (Some x) m =
+    let q = sym (ending_is (drop (length text - 3) text) dot_jp) ∙ m.0 in
+    record { ending = rw e q; parts = rw (m.1, ← same_is (drop (length text - 3) text) dot_jp q) (take-append-drop (length text - 3) text) }
+
+module _ (text label : List ℕ) (E : EndsInJp text label) where
+  pub ending_sizes : (4 ≤ length text) × (length text ≤ 256)
   unfolding ends_in_jp
-  too_few h = rw (outside 4 256 (length text) (λ p q. omega arith))
+  ending_sizes = in_range 4 256 (length text) (both (within 4 256 (length text)) (same (drop (length text - 3) text) dot_jp) E.ending).0
 
-  pub too_many : 256 < length text → false ≡ ends_in_jp text
-  unfolding ends_in_jp
-  too_many h = rw (outside 4 256 (length text) (λ p q. omega arith))
+  pub usual_label : (P : Permits) → P.known ≡ true → {ks : Kinds} → held_told (Some ks) ≡ held_in P label → UsualLabel P label ks
+  unfolding jp held_in
+  usual_label P there_is q =
+      let s = ending_sizes in
+      let n : length label + 3 ≡ length text = sym (length-append label dot_jp) ∙ ap length E.parts in
+      let fits = sym (ap (λ (x : Held). x.fit) q) in
+      record { there_is = there_is; fit = fits; found = ap (λ (x : Held). x.kinds) q ∙ rw fits; some = omega arith; few = omega arith }
 
-  module _ (h : 4 ≤ length text) (k : length text ≤ 256) where
-    last_three : drop (length text - 3) text ≡ get_or text (length text - 3) 0 ∷ get_or text (length text - 3 + 1) 0 ∷ get_or text (length text - 3 + 2) 0 ∷ []
-    last_three =
-        let n = length text - 3 in
-        rw (add-one n, add-two n) (
-        drop-cons text n 0 (omega arith)
-        ∙ ap (λ (l : List ℕ). get_or text n 0 ∷ l) (drop-cons text (suc n) 0 (omega arith)
-        ∙ ap (λ (l : List ℕ). get_or text (suc n) 0 ∷ l) (drop-cons text (suc (suc n)) 0 (omega arith)
-        ∙ ap (λ (l : List ℕ). get_or text (suc (suc n)) 0 ∷ l) (drop_of_length-le text {i = suc (suc (suc n))} (omega arith)))))
-
-    told : ends_in_jp text
-        ≡ eqb (get_or text (length text - 3) 0) 0x2E && (eqb (get_or text (length text - 3 + 1) 0) 0x6A && (eqb (get_or text (length text - 3 + 2) 0) 0x70 && true))
-    unfolding ends_in_jp same jp
-    told = rw (inside 4 256 (length text) h k, last_three)
-
-    pub no_dot : (get_or text (length text - 3) 0 ≡ 0x2E → ⊥) → false ≡ ends_in_jp text
-    no_dot f = sym (told ∙ rw (ne_eqb _ 0x2E f))
-
-    module _ (p : get_or text (length text - 3) 0 ≡ 0x2E) where
-      pub no_j : (get_or text (length text - 3 + 1) 0 ≡ 0x6A → ⊥) → false ≡ ends_in_jp text
-      no_j f = sym (told ∙ rw (eq-eqb _ 0x2E p, ne_eqb _ 0x6A f))
-
-      pub by_p : get_or text (length text - 3 + 1) 0 ≡ 0x6A → eqb (get_or text (length text - 3 + 2) 0) 0x70 ≡ ends_in_jp text
-      by_p q = sym (told ∙ rw (eq-eqb _ 0x2E p, eq-eqb _ 0x6A q) (and-true _))
-
-  module _ (e : ends_in_jp text ≡ true) where
-    ending : (within 4 256 (length text) ≡ true) × (same (drop (length text - 3) text) dot_jp ≡ true)
-    unfolding ends_in_jp
-    ending = both (within 4 256 (length text)) (same (drop (length text - 3) text) dot_jp) e
-
-    pub ending_sizes : (4 ≤ length text) × (length text ≤ 256)
-    ending_sizes = in_range 4 256 (length text) ending.0
-
-    abbrev before_jp : List ℕ
-    before_jp = take (length text - 3 - 0) (drop 0 text)
-
-    the_two : before_jp ++ dot_jp ≡ text
-    the_two =
-        let z : length text - 3 - 0 ≡ length text - 3 = omega arith in
-        rw (z, ← same_is (drop (length text - 3) text) dot_jp ending.1) (take-append-drop (length text - 3) text)
-
-    pub usual_label : (P : Permits) → P.known ≡ true → {h : Held} → h ≡ held_in P before_jp → h.fit ≡ true → UsualLabel P before_jp h.kinds
-    unfolding jp held_in
-    usual_label P there_is {h} q a =
-        let s = ending_sizes in
-        let n : length before_jp + 3 ≡ length text = sym (length-append before_jp dot_jp) ∙ ap length the_two in
-        let fits = sym (ap (λ (x : Held). x.fit) q) ∙ a in
-        record { there_is = there_is; fit = fits; found = ap (λ (x : Held). x.kinds) q ∙ rw fits; some = omega arith; few = omega arith }
-
-    -- what is said of the two is said of the text
-    pub as_text : (P : Permits) {before after : List ℕ} {r : AsciiForm} → AsciiForms P (before_jp ++ dot_jp) before after r → AsciiForms P text before after r
-    as_text P a = rw the_two at a
+  -- what is said of the two is said of the text
+  pub as_text : (P : Permits) {before after : List ℕ} {r : AsciiForm} → AsciiForms P (label ++ dot_jp) before after r → AsciiForms P text before after r
+  as_text P a = rw E.parts at a
 
 -- ---- the text
 
@@ -189,23 +162,21 @@ module _ (P : Permits) (stretch : InStretch P) (shorts : ShortMiddles P) (marks 
 
   -- ---- what is said of it
 
-  module _ {j : Bool} {a : Answer} (known : j ≡ any_found ks) (told : a ≡ first (known_rows P j of_name label 0)) where
-    e : a ≡ first (label_rows P of_name label 0)
-    e = told ∙ rows_are P marks.dot label of_name 0 (known ∙ ap any_found w.found ∙ sym (any_found_lem P label))
+  module _ {j : Bool} (known : j ≡ any_found ks) where
+    of_label : {a : Answer} → a ≡ first (known_rows P j of_name label 0) → a ≡ first (label_rows P of_name label 0)
+    of_label told = told ∙ rows_are P marks.dot label of_name 0 (known ∙ ap any_found w.found ∙ sym (any_found_lem P label))
 
-    refused_by : (a.number ≡ 0 → ⊥) → rules P text ≡ refused a.number a.place
-    refused_by h = ruled ∙ name_left P (label ∷ jp ∷ []) refl filled e h
-
-    pub usual_refused : {before : List ℕ} {r : AsciiForm} → 192 ≤ length before → (a.number ≡ 0 → ⊥) → r ≡ refused_form a.number a.place
-        → AsciiForms P text before before r
+    pub usual_refused : {before : List ℕ} → 192 ≤ length before → (x : Refused) → refusal_told x ≡ first (known_rows P j of_name label 0)
+        → AsciiForms P text before before (ascii_told (Err x))
     unfolding rules verdict
-    usual_refused {before} room h q =
-        ascii_refused P text before room (ap (λ (v : Verdict). record { number = v.number; place = v.place }) (refused_by h)) h q
+    usual_refused {before} room x told =
+        let said = ruled ∙ name_left P (label ∷ jp ∷ []) refl filled (of_label told) (number_not_0 x.why) in
+        ascii_refused P text before room x (ap (λ (v : Verdict). record { number = v.number; place = v.place }) said)
 
-    module _ (z : a.number ≡ 0) where
+    module _ (told : taken ≡ first (known_rows P j of_name label 0)) where
       accepted_by : rules P text ≡ accepted General
       unfolding class_of
-      accepted_by = ruled ∙ name_0 P (label ∷ jp ∷ []) refl filled e z (same_refl jp) refl
+      accepted_by = ruled ∙ name_0 P (label ∷ jp ∷ []) refl filled (of_label told) refl (same_refl jp) refl
 
       clears : Clear (text_rows P text)
       unfolding rules verdict
@@ -216,31 +187,31 @@ module _ (P : Permits) (stretch : InStretch P) (shorts : ShortMiddles P) (marks 
       label_writable = (both (writable P label) _ (ap (all_of (writable P)) (sym labels_are) ∙ (accepted_writable P shorts text clears).fit)).0
 
       -- what is put for the label, by which the buffer has become `after`
-      module _ {before after : List ℕ} {r : Put} (t : PutsOrKeeps (not (uncoded P label)) (ascii_label P label) before after 0 r) where
+      module _ {before after : List ℕ} {r : Option ℕ} (t : PutsOrKeeps (not (uncoded P label)) (ascii_label P label) before after 0 r) where
         uncoded_is : any_of (uncoded P) (labels (normal_form text)) ≡ uncoded P label
         unfolding any_of uncoded
         uncoded_is = rw (labels_are, jp_ascii P stretch) (or-false _)
 
-        pub usual_uncoded : {r' : AsciiForm} → 192 ≤ length before → r.coded ≡ false → r' ≡ refused_form 14 0 → AsciiForms P text before after r'
-        usual_uncoded room y q =
-            rw (t.kept y) (ascii_uncoded P text before room clears q (uncoded_is ∙ not-false (uncoded P label) (sym t.puts.coded ∙ y)))
+        pub usual_uncoded : 192 ≤ length before → r ≡ None → AsciiForms P text before after (refused_form 14 0)
+        usual_uncoded room y =
+            rw (t.kept (ap is_some y)) (ascii_uncoded P text before room clears (uncoded_is ∙ not-false (uncoded P label) (sym t.puts.coded ∙ ap is_some y)))
 
-        module _ (y : r.coded ≡ true) where
-          taken : uncoded P label ≡ false
-          taken = not-true (uncoded P label) (sym t.puts.coded ∙ y)
+        module _ {n : ℕ} (y : r ≡ Some n) where
+          coded : uncoded P label ≡ false
+          coded = not-true (uncoded P label) (sym t.puts.coded ∙ ap is_some y)
 
-          pub at_most : r.at ≤ 63
-          at_most = omega (arith, (t.puts.put y).place, label_size P label label_writable taken)
+          pub at_most : n ≤ 63
+          at_most = omega (arith, (t.puts.put n y).place, label_size P label label_writable coded)
 
           form_ascii : ascii_form P (normal_form text) ≡ ascii_label P label ++ dot_jp
           unfolding ascii_form ascii_label join
           form_ascii = rw (labels_are, jp_ascii P stretch)
 
-          pub usual_accepted : 192 ≤ length before → r.at + 3 ≤ length after
-              → AsciiForms P text before (set (set (set after r.at 0x2E) (r.at + 1) 0x6A) (r.at + 2) 0x70)
-              (record { number = 0; place = 0; class = General; kinds = ks; length = r.at + 3 })
+          pub usual_accepted : 192 ≤ length before → n + 3 ≤ length after → {last : List ℕ} → last ≡ dot_jp
+              → AsciiForms P text before (take n after ++ (last ++ drop (n + 3 - n) (drop n after)))
+              (record { number = 0; place = 0; class = General; kinds = ks; length = n + 3 })
           unfolding class_of written
-          usual_accepted room l =
-              let puts = then (t.puts.put y) (put_jp after r.at l) in
-              let size : r.at + 3 ≡ length (ascii_label P label ++ dot_jp) = omega (arith, puts.place) in
-              ascii_accepted P text before room clears (uncoded_is ∙ taken) (rw labels_are) (rw labels_are w.found) (size ∙ ap length (sym form_ascii)) (puts.buffer ∙ rw (form_ascii, size))
+          usual_accepted room l e =
+              let puts = then (t.puts.put n y) (put_jp after n l e) in
+              let size : n + 3 ≡ length (ascii_label P label ++ dot_jp) = omega (arith, puts.place) in
+              ascii_accepted P text before room clears (uncoded_is ∙ coded) (rw labels_are) (rw labels_are w.found) (size ∙ ap length (sym form_ascii)) (puts.buffer ∙ rw (form_ascii, size))

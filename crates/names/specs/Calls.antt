@@ -1,24 +1,46 @@
 -- What the calls on a name answer, and what they leave in the buffer that is lent to them: document 01, 'Numbers a
 -- call may answer'.
-use Rattle.std.specs.Prelude.{false, List, [], ◌∷◌, ◌++◌, ◌≡◌, ℕ, eqb, ltb, length, get_or}
+use Rattle.std.specs.Prelude.{Result, Ok, Err, false, List, [], ◌∷◌, ◌++◌, ◌≡◌, ℕ, eqb, ltb, length, get_or}
 use Rattle.lists.specs.Tests.{pick, any_of}
 use Rattle.lists.specs.Rows.{Row, row, Gives}
-use Rattle.lists.specs.declared.Answer.{Answer}
+use Rattle.lists.specs.Rows.{Answer}
 use Rattle.normal.specs.Normal.{normal_form}
 use Rattle.rules.specs.Labels.{labels}
 use Rattle.rules.specs.Permits.{Permits}
 use Rattle.rules.specs.Kinds.{kinds_in, no_kinds}
-use Rattle.rules.specs.Places.{places_said}
+use Rattle.rules.specs.Places.{places_said, no_places}
+use Rattle.rules.specs.declared.LabelPlaces.{LabelPlaces}
+use Rattle.rules.specs.Verdicts.{Class, None, class_told}
+use Rattle.refusals.specs.Refusals.{number_of}
+use Rattle.refusals.specs.declared.Refused.{Refused}
+use Rattle.names.specs.declared.AsciiName.{AsciiName}
+use Rattle.names.specs.declared.Accepted.{Accepted}
+use Rattle.names.specs.declared.Formed.{Formed}
+use Rattle.fronts.specs.declared.Judgement.{Judgement}
 use Rattle.rules.specs.Rules.{text_rows, verdict, rules}
 use Rattle.rules.specs.declared.Kinds.{Kinds}
-use Rattle.rules.specs.declared.Verdict.{Verdict}
+use Rattle.rules.specs.Verdicts.{Verdict}
 use Rattle.fronts.specs.Fronts.{shown, padded}
 use Rattle.ascii.specs.Ascii.{ascii_form, uncoded}
-use Rattle.names.specs.declared.Judged.{Judged}
-use Rattle.names.specs.declared.Checked.{Checked}
-use Rattle.names.specs.declared.AsciiForm.{AsciiForm}
 
 -- ---- the judge: what the rules say of a text, with where its labels stand and its normal form
+
+pub record Judged : Type 0 where
+  pub number : ℕ
+  pub place : ℕ
+  pub class : Class
+  pub labels : LabelPlaces
+  pub form : List ℕ
+  pub length : ℕ
+
+abbrev pub shown_told : Result Accepted Refused → List ℕ → ℕ → Judged
+shown_told (Ok a) form n =
+    record { number = 0; place = 0; class = class_told a.class; labels = a.labels; form = form; length = n }
+shown_told (Err e) form n =
+    record { number = number_of e.why; place = e.place; class = None; labels = no_places; form = form; length = n }
+
+abbrev pub judge_told : Judgement Accepted → Judged
+judge_told j = shown_told j.said j.form j.length
 
 unfoldable pub judged : Permits → List ℕ → Judged
 judged P text =
@@ -42,6 +64,17 @@ pub record Answers {R : Type 0} (make : Verdict → ℕ → R) (rows : List Row)
 -- ---- the check: 1 for a buffer under 256, then the rules; with 0 it says where the labels stand (document 02, K7) and
 -- writes the normal form
 
+pub record Checked : Type 0 where
+  pub number : ℕ
+  pub place : ℕ
+  pub class : Class
+  pub labels : LabelPlaces
+  pub length : ℕ
+
+abbrev pub check_told : Result Formed Refused → Checked
+check_told (Ok f) = record { number = 0; place = 0; class = class_told f.class; labels = f.labels; length = f.length }
+check_told (Err e) = record { number = number_of e.why; place = e.place; class = None; labels = no_places; length = 0 }
+
 unfoldable pub check_rows : Permits → List ℕ → ℕ → List Row
 check_rows P text room = row 1 (ltb room 256) 0 ∷ text_rows P text
 
@@ -61,6 +94,17 @@ Checks P text before after r =
 
 -- ---- the whole ASCII form: 1 for a buffer under 192, the rules, then 14, which never comes of an accepted name
 -- (proofs/Coded); with 0 it writes the form
+
+pub record AsciiForm : Type 0 where
+  pub number : ℕ
+  pub place : ℕ
+  pub class : Class
+  pub kinds : Kinds
+  pub length : ℕ
+
+abbrev pub ascii_told : Result AsciiName Refused → AsciiForm
+ascii_told (Ok f) = record { number = 0; place = 0; class = class_told f.class; kinds = f.kinds; length = f.length }
+ascii_told (Err e) = record { number = number_of e.why; place = e.place; class = None; kinds = no_kinds; length = 0 }
 
 unfoldable pub ascii_rows : Permits → List ℕ → ℕ → List Row
 ascii_rows P text room =

@@ -18,9 +18,9 @@ use Rattle.rules.specs.Rules.{short, long, hyphen_pair, pretends, bare_dot, labe
 use Rattle.rules.specs.Rules.{class_of, verdict, rules, rules_but, accepted}
 use Rattle.rules.specs.Prefectures.{latin_prefectures, japanese_prefectures, prefectures}
 use Rattle.rules.specs.Editions.{middles_in, edition_with, today_with}
-use Rattle.rules.specs.declared.Class.{Class}
-use Rattle.rules.specs.declared.Class.TheVariants.{General, Prefecture}
-use Rattle.rules.specs.declared.Verdict.{Verdict}
+use Rattle.rules.specs.Verdicts.{Class}
+use Rattle.rules.specs.Verdicts.{General, Prefecture}
+use Rattle.rules.specs.Verdicts.{Verdict}
 use Rattle.ascii.specs.Ascii.{ascii_label, ascii_form, uncoded}
 use Rattle.ascii.specs.Examples.{kana, encoded, kana_number, kana_form}
 use Rattle.names.specs.Calls.{Coded}

@@ -1,6 +1,7 @@
 -- What the functions below the calls answer: the rules of a text with its normal form, the labels of a form, the parts
 -- of an ASCII form, the usual name.
-use Rattle.std.specs.Prelude.{Bool, true, false, ◌&&◌, List, ◌∷◌, ◌⊎◌, ◌≡◌, ℕ, ◌-◌, ◌*◌, ◌≤◌, length, drop}
+use Rattle.std.specs.Prelude.{Bool, true, false, ◌&&◌, List, ◌∷◌, ◌++◌, ◌⊎◌, ◌≡◌, Option, Some, ℕ, ◌-◌, ◌*◌, ◌≤◌, length, drop}
+use Rattle.std.specs.Option.{is_some}
 use Rattle.lists.specs.Tests.{within, all_of, same}
 use Rattle.lists.specs.Front.{written, Puts}
 use Rattle.rules.specs.Labels.{labels}
@@ -8,16 +9,34 @@ use Rattle.rules.specs.Permits.{Permits, label_char}
 use Rattle.rules.specs.Kinds.{kinds_in, no_kinds}
 use Rattle.rules.specs.Places.{no_places}
 use Rattle.rules.specs.Rules.{jp, rules}
-use Rattle.rules.specs.declared.Class.TheVariants.{None}
+use Rattle.rules.specs.Verdicts.{None}
 use Rattle.rules.specs.declared.Kinds.{Kinds}
-use Rattle.fronts.specs.Fronts.{shown}
+use Rattle.fronts.specs.Fronts.{shown, Fronted, Fronts}
 use Rattle.ascii.specs.Ascii.{writable}
-use Rattle.names.specs.declared.AsciiForm.{AsciiForm}
-use Rattle.names.specs.declared.Checked.{Checked}
-use Rattle.names.specs.declared.whole.Put.{Put}
-use Rattle.names.specs.declared.judges.Ruled.{Ruled}
+use Rattle.names.specs.Calls.{AsciiForm}
+use Rattle.names.specs.Calls.{Checked}
+use Rattle.rules.specs.Verdicts.{Class, Verdict, verdict_told}
+use Rattle.names.specs.declared.judges.Ruled as one
 
--- what the rules say of a text, with the length of its normal form, which stands at the buffer's start
+-- what is said by what the front of a text told, and by the form that it left in a buffer with room, is what the rules
+-- say of the text
+abbrev pub Says : Permits → List ℕ → Fronted → Verdict → Type 0
+Says P form front v =
+    (text before : List ℕ) → 256 ≤ length before → Fronts P text before form front → v ≡ rules P text
+
+-- what the rules say of a text, and how long its normal form is
+pub record Ruled : Type 0 where
+  pub number : ℕ
+  pub place : ℕ
+  pub class : Class
+  pub length : ℕ
+
+abbrev pub ruled_told : one.Ruled → Ruled
+ruled_told r =
+    let v = verdict_told r.said in
+    record { number = v.number; place = v.place; class = v.class; length = r.length }
+
+-- the normal form stands at the buffer's start
 pub record Judges (P : Permits) (text before after : List ℕ) (r : Ruled) : Type 0 where
   pub result : r ≡ record {
     number = (rules P text).number;
@@ -47,15 +66,16 @@ pub record Writable (P : Permits) (form : List ℕ) (room : ℕ) : Type 0 where
   pub fit : all_of (writable P) (labels form) ≡ true
   pub few : 64 * length (labels form) ≤ room
 
--- where the coder takes it, a piece is put from `at` on; where it does not, what stands there is not said
-pub record PutsWhere (taken : Bool) (piece before after : List ℕ) (at : ℕ) (r : Put) : Type 0 where
-  pub coded : r.coded ≡ taken
-  pub put : r.coded ≡ true → Puts piece before after at r.at
+-- where the coder takes it, a piece is put from `at` on, and the place past it is told; where it does not, what stands
+-- there is not said
+pub record PutsWhere (taken : Bool) (piece before after : List ℕ) (at : ℕ) (r : Option ℕ) : Type 0 where
+  pub coded : is_some r ≡ taken
+  pub put : (n : ℕ) → r ≡ Some n → Puts piece before after at n
 
 -- the same of one label: where the coder refuses it, all is as it was
-pub record PutsOrKeeps (taken : Bool) (piece before after : List ℕ) (at : ℕ) (r : Put) : Type 0 where
+pub record PutsOrKeeps (taken : Bool) (piece before after : List ℕ) (at : ℕ) (r : Option ℕ) : Type 0 where
   pub puts : PutsWhere taken piece before after at r
-  pub kept : r.coded ≡ false → after ≡ before
+  pub kept : is_some r ≡ false → after ≡ before
 
 -- ---- the usual name: a label that holds only what a label may, and ".jp"
 
@@ -72,3 +92,8 @@ dot_jp = 0x2E ∷ jp
 
 unfoldable pub ends_in_jp : List ℕ → Bool
 ends_in_jp text = within 4 256 (length text) && same (drop (length text - 3) text) dot_jp
+
+-- a text that ends so, and what stands before ".jp"
+pub record EndsInJp (text label : List ℕ) : Type 0 where
+  pub ending : ends_in_jp text ≡ true
+  pub parts : label ++ dot_jp ≡ text

@@ -9,7 +9,7 @@ use lib.Dec.{eqb}
 use borrow.Author.Tests.{lt-ltb, le-ltb, eq-eqb, ne_eqb, eqb-false}
 use Rattle.lists.specs.Front.{written}
 use Rattle.lists.specs.Rows.{accepted}
-use Rattle.lists.specs.declared.Answer.{Answer}
+use Rattle.lists.specs.Rows.{Answer}
 use Rattle.lists.proofs.Fronts.{untouched}
 use Rattle.lists.proofs.Tables.{passed_over, hit, clear, given_all, given_none}
 use Rattle.normal.specs.Normal.{normal_form}

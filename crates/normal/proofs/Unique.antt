@@ -4,10 +4,10 @@ use mathlib.Core.Path.{◌≡◌}
 use mathlib.Core.List.{List}
 use Prim.Native.Nat.{ℕ}
 use Rattle.lists.proofs.Unique.{decided}
-use Rattle.normal.specs.declared.Normal.{Normal}
+use Rattle.refusals.specs.Refusals.{Filled}
 use Rattle.normal.specs.Calls.{Normalises}
 
 -- of the normal form call: the result, and every entry of the buffer
-pub unique : {text before after after' : List ℕ} {r s : Normal} → Normalises text before after r → Normalises text before after' s
+pub unique : {text before after after' : List ℕ} {r s : Filled} → Normalises text before after r → Normalises text before after' s
     → (r ≡ s) × (after ≡ after')
 unique p q = (decided p.result q.result, decided p.buffer q.buffer)

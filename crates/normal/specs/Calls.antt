@@ -2,9 +2,9 @@
 use Rattle.std.specs.Prelude.{List, [], ◌∷◌, ◌≡◌, ℕ, eqb, ltb, length}
 use Rattle.lists.specs.Front.{written}
 use Rattle.lists.specs.Rows.{Row, row, first, given}
-use Rattle.lists.specs.declared.Answer.{Answer}
+use Rattle.lists.specs.Rows.{Answer}
 use Rattle.normal.specs.Normal.{normal_form}
-use Rattle.normal.specs.declared.Normal.{Normal}
+use Rattle.refusals.specs.Refusals.{Filled}
 
 -- the refusals of the normal form call, for a text and the room of the lent buffer
 unfoldable pub rows : List ℕ → ℕ → List Row
@@ -21,9 +21,9 @@ answer text room = first (rows text room)
 unfoldable pub writes : List ℕ → ℕ → List ℕ
 writes text room = given (answer text room) (normal_form text)
 
-abbrev pub answered : Answer → List ℕ → Normal
+abbrev pub answered : Answer → List ℕ → Filled
 answered a form = record { number = a.number; place = a.place; length = length form }
 
-pub record Normalises (text before after : List ℕ) (r : Normal) : Type 0 where
+pub record Normalises (text before after : List ℕ) (r : Filled) : Type 0 where
   pub result : r ≡ answered (answer text (length before)) (writes text (length before))
   pub buffer : after ≡ written (writes text (length before)) before

@@ -3,7 +3,7 @@
 use Rattle.std.specs.Prelude.{◌≡◌, refl, List, [], ◌∷◌, ◌++◌, map, ℕ, zero, suc, length, replicate}
 use Rattle.lists.specs.Tests.{within, any_of, elem}
 use Rattle.lists.specs.Rows.{first}
-use Rattle.lists.specs.declared.Answer.{Answer}
+use Rattle.lists.specs.Rows.{Answer}
 use Rattle.characters.specs.Replace.{ranges, range_in, half_kana, is_half, replace_in, replace}
 use Rattle.characters.specs.Compose.{voiced, repeats, half_voiced, either_kana, composed}
 use Rattle.normal.specs.Calls.{rows, answer}

@@ -3,127 +3,76 @@
 // defined in specs/: Normal, Calls.
 #![tactic(auto)]
 
-ghost use Rattle.std.specs.Prelude.{◌≡◌, ◌<◌, ◌≤◌, get_or, length};
+ghost use Rattle.std.specs.Prelude.{◌≡◌, ◌<◌, ◌∷◌, slice_get, length};
 ghost use Rattle.lists.specs.Front.{Puts};
-ghost use Rattle.characters.specs.Compose.{composed};
 ghost use Rattle.normal.specs.Normal.{normal_form, places};
 ghost use Rattle.normal.specs.Calls.{Normalises};
+ghost use Rattle.refusals.specs.Refusals.{filled};
 
-// The numbers that the normal form call answers.
-pub const ACCEPTED: u8 = 0;
-
-pub const NO_ROOM: u8 = 1;
-
-pub const NO_TEXT: u8 = 2;
-
-pub const TOO_LONG: u8 = 3;
+use characters::{joined, replaced};
+use refusals::{Refusal, Refused};
 
 // The longest text, and the room that a normal form asks for.
 pub const MOST: usize = 256;
 
-#[derive(Clone, Copy)]
-pub struct Normal {
-    pub number: u8,
-    pub place: usize,
-    pub length: usize,
-}
-
-// What a base and the code point after it become, or 0: only the two marks need be asked.
-fn joined(base: u32, mark: u32) -> u32
-    ensures { result ≡ composed base mark }
+// Writes the normal form of a first code point and the rest to the buffer's start, and returns its length. `last` is not yet written: a mark
+// may follow it.
+fn fill(first: u32, rest: &[u32], out: &mut [u32]) -> usize
+    requires { length rest.now < length out.old }
+    ensures { Puts (normal_form (first ∷ rest.now)) out.old out.new 0 result }
 {
-    if mark < 0x309B {
-        return 0;
-    }
-    if 0x309C < mark {
-        return 0;
-    }
-    characters::joined(base, mark)
-}
-
-// Writes the normal form to the buffer's start, and returns its length. `last` is not yet written: a mark may follow it.
-fn fill(text: &[u32], out: &mut [u32]) -> usize
-    requires { (0 < length text.now) × (length text.now ≤ length out.old) }
-    ensures { Puts (normal_form text.now) out.old out.new 0 result }
-{
-    let mut last = characters::replaced(text[0]);
+    let mut last = replaced(first);
     let mut n = 0;
-    let mut i = 1;
-    while i < text.len() {
-        let raw = text[i];
-        let next = characters::replaced(raw);
-        let one = joined(last, next);
-        i += 1;
-        if one == 0 {
-            out[n] = last;
-            n += 1;
-            last = next;
-        } else {
-            last = one;
+    for raw in rest {
+        let next = replaced(*raw);
+        match joined(last, next) {
+            Some(one) => last = one,
+            None => {
+                out[n] = last;
+                n += 1;
+                last = next;
+            }
         }
     }
     out[n] = last;
     n + 1
 }
 
-pub fn normal_form(text: &[u32], out: &mut [u32]) -> Normal
-    ensures { Normalises text.now out.old out.new result }
+// How long the normal form is that is written to the buffer's start.
+pub fn normal_form(text: &[u32], out: &mut [u32]) -> Result<usize, Refused>
+    ensures { Normalises text.now out.old out.new (filled result) }
 {
     if out.len() < MOST {
-        return Normal {
-            number: NO_ROOM,
-            place: 0,
-            length: 0,
-        };
+        return Err(Refusal::NoRoom.at(0));
     }
-    if text.len() == 0 {
-        return Normal {
-            number: NO_TEXT,
-            place: 0,
-            length: 0,
-        };
-    }
+    let Some((first, rest)) = text.split_first() else {
+        return Err(Refusal::NoText.at(0));
+    };
     if MOST < text.len() {
-        return Normal {
-            number: TOO_LONG,
-            place: MOST,
-            length: 0,
-        };
+        return Err(Refusal::TooLong.at(MOST));
     }
-    let length = fill(text, out);
-    Normal {
-        number: ACCEPTED,
-        place: 0,
-        length,
-    }
+    Ok(fill(*first, rest, out))
 }
 
-// The index in the text where the k-th character of its normal form began, or 0 where there is none. `last` began at `start`.
-pub fn place_of(text: &[u32], k: usize) -> usize
-    ensures { result ≡ get_or (places text.now) k 0 }
+// The index in the text where the k-th character of its normal form began, where there is one. `last` began at `start`.
+pub fn place_of(text: &[u32], k: usize) -> Option<usize>
+    ensures { result ≡ slice_get (places text.now) k }
 {
-    if text.len() == 0 {
-        return 0;
-    }
-    let mut last = characters::replaced(text[0]);
+    let (first, rest) = text.split_first()?;
+    let mut last = replaced(*first);
     let mut start = 0;
     let mut n = 0;
-    let mut i = 1;
-    while i < text.len() {
-        let at = i;
-        let c = characters::replaced(text[at]);
-        let one = characters::joined(last, c);
-        i += 1;
-        if one == 0 {
-            if n == k {
-                return start;
+    for (i, raw) in rest.iter().enumerate() {
+        let c = replaced(*raw);
+        match joined(last, c) {
+            Some(one) => last = one,
+            None if n == k => return Some(start),
+            None => {
+                n += 1;
+                last = c;
+                start = i + 1;
             }
-            n += 1;
-            last = c;
-            start = at;
-        } else {
-            last = one;
         }
     }
-    if n == k { start } else { 0 }
+    if n == k { Some(start) } else { None }
 }

@@ -1,226 +1,121 @@
-// The answer to a case: the call that the line names is run, and what comes back is printed.
-ghost use Rattle.std.specs.Prelude.{◌≤◌, length};
+// The answer to a case: the call that the line names is run, and what comes back is printed. Of a pair such as C and c the first is lent the
+// table of kanji, and the second names it itself.
+use crate::cases::Case;
+use crate::lent::Entry;
+use crate::printed::{Said, put_flag, put_malformed};
+use crate::streams::typed;
+use crate::{cases, kinds, label, lent, outside, slices, streams, wishing};
+use characters::Edition;
+use std::alloc::Global;
+use std::io;
+use std::io::Write;
 
-use crate::{
-    cases, hosted, kinds, label, lent, line_calls, named, outside, printed, slices, streams,
-    wishing,
-};
-
-// N: the normal form.
-fn normal_form(rt: &impl Print, text: &[u32], room: usize, out: &mut [u8], from: usize) -> usize
-    requires { room ≤ 300 }
+// Lends a buffer to a call, and prints what that says and what it changed of the buffer.
+fn lend<T: Entry, S: Said, F: FnOnce(&mut [T]) -> S>(
+    out: &mut impl Write,
+    case: &Case,
+    call: F,
+) -> io::Result<()>
+    requires { F.IsAlwaysCallable call }
 {
-    let mut space = [0u32; 300];
-    let buffer = &mut space[0..room];
-    lent::fill_codes(buffer);
-    let r = normal::normal_form(text, buffer);
-    let o = printed::put_unclassed(rt, out, from, r.number, r.place, r.length);
-    lent::put_codes(rt, out, o, buffer)
+    let mut buffer = lent::filled(case.alloc, case.room)?;
+    call(buffer.as_mut_slice()).put(out)?;
+    lent::put_changed(out, buffer.as_slice())
 }
 
-// E: the coder.
-fn encode(rt: &impl Print, label: &[u32], room: usize, out: &mut [u8], from: usize) -> usize
-    requires { room ≤ 300 }
-{
-    let mut space = [0u8; 300];
-    let buffer = &mut space[0..room];
-    lent::fill_octets(buffer);
-    let r = punycode::encode(label, buffer);
-    let o = printed::put_unclassed(rt, out, from, r.number, r.place, r.length);
-    lent::put_octets(rt, out, o, buffer)
-}
-
-// D: the decoder.
-fn decode(rt: &impl Print, octets: &[u8], room: usize, out: &mut [u8], from: usize) -> usize
-    requires { room ≤ 300 }
-{
-    let mut space = [0u32; 300];
-    let buffer = &mut space[0..room];
-    lent::fill_codes(buffer);
-    let r = punycode::decode(octets, buffer);
-    let o = printed::put_unclassed(rt, out, from, r.number, r.place, r.length);
-    lent::put_codes(rt, out, o, buffer)
-}
-
-// Puts the numbers into `octets`, and says whether all of them are octets.
-fn narrowed(numbers: &[u32], octets: &mut [u8]) -> bool
-    requires { length numbers.now ≤ length octets.old }
-{
-    let mut i: usize = 0;
-    while i < numbers.len() {
-        let x = numbers[i];
-        if x > 255 {
-            return false;
-        }
-        octets[i] = x as u8;
-        i += 1;
+// A call on a name.
+fn on_name(edition: &Edition, case: &Case, out: &mut impl Write) -> io::Result<()> {
+    let Edition { kanji, number } = *edition;
+    let text = case.numbers.as_slice();
+    match case.call {
+        b'A' => lend(out, case, |form| names::to_ascii_with(edition, text, form)),
+        b'a' => lend(out, case, |form| names::to_ascii(number, text, form)),
+        b'C' => lend(out, case, |form| names::check_with(edition, text, form)),
+        b'c' => lend(out, case, |form| names::check(number, text, form)),
+        b'J' => names::judge_with(edition, text).put(out),
+        b'j' => names::judge(number, text).put(out),
+        b'L' => typed(number, text).look_with(kanji).put(out),
+        b'l' => typed(number, text).look().put(out),
+        b'M' => streams::hope(out, edition, text),
+        b'S' => put_flag(out, readers::reads_with(kanji, text)),
+        b's' => put_flag(out, readers::reads(text)),
+        b'Z' => searches::acceptable_with(kanji, text).put(out),
+        b'z' => searches::acceptable(text).put(out),
+        _ => on_host(edition, case, out),
     }
-    true
+}
+
+// A call on a host, or on what names and hosts share.
+fn on_host(edition: &Edition, case: &Case, out: &mut impl Write) -> io::Result<()> {
+    let Edition { kanji, number } = *edition;
+    let text = case.numbers.as_slice();
+    match case.call {
+        b'G' => hosts::judge_with(kanji, text).put(out),
+        b'g' => hosts::judge(text).put(out),
+        b'H' => lend(out, case, |ascii| hosts::to_ascii_with(kanji, text, ascii)),
+        b'h' => lend(out, case, |ascii| hosts::to_ascii(text, ascii)),
+        b'R' => lend(out, case, |form| fronts::front_with(edition, text, form)),
+        b'V' => typed(number, text).look_host_with(kanji).put(out),
+        b'v' => typed(number, text).look_host().put(out),
+        _ => on_numbers(edition, case, out),
+    }
+}
+
+// A call on a label, on single numbers or on two texts, or one of the outside's.
+fn on_numbers(edition: &Edition, case: &Case, out: &mut impl Write) -> io::Result<()> {
+    let room = case.room;
+    let numbers = case.numbers.as_slice();
+    match case.call {
+        b'E' => lend(out, case, |ascii| punycode::encode(numbers, ascii)),
+        b'I' => put_flag(out, names::is_edition(edition.number)),
+        b'K' => kinds::kinds(out, edition, numbers),
+        b'N' => lend(out, case, |form| normal::normal_form(numbers, form)),
+        b'O' => outside::on_points(out, edition.number, room, numbers),
+        b'P' => slices::places(out, numbers, room),
+        b'Q' => label::one_label(out, edition, numbers, room != 0),
+        b'T' => slices::two_lists(out, case.alloc, numbers, room),
+        b'X' => lend(out, case, |ascii| ascii::label_form(numbers, ascii)),
+        b'o' => wishing::told(out, numbers, room),
+        b'w' => wishing::wishes(out, edition.kanji, numbers, room),
+        _ => put_malformed(out),
+    }
 }
 
 // A call on octets.
-fn on_octets(
-    rt: &impl Print,
-    kanji: &[u32],
-    edition: u32,
-    call: u8,
-    numbers: &[u32],
-    room: usize,
-    out: &mut [u8],
-    o: usize,
-) -> usize
-    requires room_bound { room ≤ 300 }
-    requires numbers_len_bound { length numbers.now ≤ 2000 }
-{
-    let mut space = [0u8; 2000];
-    if !narrowed(numbers, &mut space) {
-        return printed::put_byte(rt, out, o, b'?');
-    }
-    let n = numbers.len();
-    let octets: &[u8] = &space[0..n];
-    match call {
-        b'D' => decode(rt, octets, room, out, o),
-        b'F' => line_calls::fields(rt, octets, room, out, o),
-        b'U' => line_calls::decode_utf8(rt, octets, room, out, o),
-        b'W' => line_calls::answer(rt, kanji, octets, room, out, o),
-        b'Y' => outside::on_octets(rt, edition, room, octets, out, o),
-        _ => {
-            let mut reply = [0u8; 300];
-            streams::whole_batch(rt, kanji, octets, &mut reply, out, o)
-        }
+fn on_octets(edition: &Edition, case: &Case, out: &mut impl Write) -> io::Result<()> {
+    let Edition { kanji, number } = *edition;
+    let room = case.room;
+    let narrowed = case.numbers.iter().map(|x| u8::try_from(*x).ok());
+    let Some(octets) = narrowed.collect::<Option<Vec<u8>>>(case.alloc)? else {
+        return put_malformed(out);
+    };
+    let octets = octets.as_slice();
+    match case.call {
+        b'B' => streams::whole_batch(out, kanji, octets),
+        b'D' => lend(out, case, |label| punycode::decode(octets, label)),
+        b'F' => slices::fields(out, octets, room),
+        b'U' => lend(out, case, |text| utf8::decode(octets, text)),
+        b'W' => lend(out, case, |reply| answer::answer_with(kanji, octets, reply)),
+        _ => outside::on_octets(out, number, room, octets),
     }
 }
 
-// Does the call name its own table? Its letter is in lower case then.
-fn is_own(call: u8) -> bool {
-    b'a' <= call
-}
-
-// A call on a name, by an edition. It is lent the table of kanji, or names its own.
-fn on_name(
-    rt: &impl Print,
-    kanji: &[u32],
-    edition: u32,
-    call: u8,
-    text: &[u32],
-    room: usize,
-    out: &mut [u8],
-    o: usize,
-) -> usize
-    requires { room ≤ 300 }
-{
-    let own = is_own(call);
-    match call {
-        b'A' | b'a' => named::to_ascii(rt, kanji, edition, own, text, room, out, o),
-        b'C' | b'c' => named::check(rt, kanji, edition, own, text, room, out, o),
-        b'J' | b'j' => named::judge(rt, kanji, edition, own, text, out, o),
-        b'L' | b'l' => streams::live_check(rt, kanji, edition, own, text, out, o),
-        b'Z' | b'z' => named::acceptable(rt, kanji, own, text, out, o),
-        _ => named::reads(rt, kanji, own, text, out, o),
-    }
-}
-
-// A call on a host, likewise; of the edition only the live check is told.
-fn on_host(
-    rt: &impl Print,
-    kanji: &[u32],
-    edition: u32,
-    call: u8,
-    text: &[u32],
-    room: usize,
-    out: &mut [u8],
-    o: usize,
-) -> usize
-    requires { room ≤ 300 }
-{
-    let own = is_own(call);
-    match call {
-        b'H' | b'h' => hosted::to_ascii(rt, kanji, own, text, room, out, o),
-        b'G' | b'g' => hosted::judge(rt, kanji, own, text, out, o),
-        _ => hosted::live_check(rt, kanji, edition, own, text, out, o),
-    }
-}
-
-// Does the call take an edition?
-fn takes_edition(call: u8) -> bool {
-    match call {
-        b'A' | b'C' | b'J' | b'L' | b'V' => true,
-        b'a' | b'c' | b'j' | b'l' | b'v' => true,
-        b'I' | b'K' | b'M' | b'O' | b'Q' | b'R' | b'Y' => true,
-        _ => false,
-    }
-}
-
-// The call of a case on its numbers.
-fn call(
-    rt: &impl Print,
-    kanji: &[u32],
-    edition: u32,
-    call: u8,
-    numbers: &[u32],
-    room: usize,
-    out: &mut [u8],
-    o: usize,
-) -> usize
-    requires room_bound { room ≤ 300 }
-    requires numbers_len_bound { length numbers.now ≤ 2000 }
-{
-    match call {
-        b'A' | b'C' | b'J' | b'L' | b'S' | b'Z' => {
-            on_name(rt, kanji, edition, call, numbers, room, out, o)
-        }
-        b'a' | b'c' | b'j' | b'l' | b's' | b'z' => {
-            on_name(rt, kanji, edition, call, numbers, room, out, o)
-        }
-        b'G' | b'H' | b'V' => on_host(rt, kanji, edition, call, numbers, room, out, o),
-        b'g' | b'h' | b'v' => on_host(rt, kanji, edition, call, numbers, room, out, o),
-        b'B' | b'D' | b'F' | b'U' | b'W' => on_octets(
-            rt, kanji, edition, call, numbers, room, out, o,
-        ),
-        b'Y' => on_octets(rt, kanji, edition, call, numbers, room, out, o),
-        b'E' => encode(rt, numbers, room, out, o),
-        b'I' => printed::put_flag(rt, out, o, names::is_edition(edition)),
-        b'K' => kinds::kinds(rt, kanji, edition, numbers, out, o),
-        b'M' => streams::hope(rt, kanji, edition, numbers, out, o),
-        b'N' => normal_form(rt, numbers, room, out, o),
-        b'O' => outside::on_points(rt, edition, room, numbers, out, o),
-        b'P' => slices::places(rt, numbers, room, out, o),
-        b'Q' => label::one_label(rt, kanji, edition, numbers, room, out, o),
-        b'R' => hosted::front(rt, kanji, edition, numbers, room, out, o),
-        b'T' => slices::two_lists(rt, numbers, room, out, o),
-        b'X' => hosted::label_form(rt, numbers, room, out, o),
-        b'o' => wishing::told(rt, numbers, room, out, o),
-        b'w' => wishing::wishes(rt, kanji, numbers, room, out, o),
-        _ => printed::put_byte(rt, out, o, b'?'),
-    }
-}
-
-// The answer to a line. No line of a case has 2,000 numbers.
+// The answer to a line.
 pub(crate) fn answer(
-    rt: &impl Print,
     kanji: &[u32],
+    alloc: Global,
     line: &[u8],
-    out: &mut [u8],
-    from: usize,
-) -> usize
-    ensures { result ≤ length out.old }
-{
-    let mut numbers = [0u32; 2000];
-    let case = cases::read(line, &mut numbers);
-    let n = case.count;
-    if case.written && !takes_edition(case.call) {
-        let o = printed::put_byte(rt, out, from, b'?');
-        return printed::put_byte(rt, out, o, b'\n');
-    }
-    let o = call(
-        rt,
+    out: &mut impl Write,
+) -> io::Result<()> {
+    let Some(case) = cases::read(alloc, line)? else {
+        return put_malformed(out);
+    };
+    let edition = Edition {
         kanji,
-        case.edition,
-        case.call,
-        &numbers[0..n],
-        case.room,
-        out,
-        from,
-    );
-    printed::put_byte(rt, out, o, b'\n')
+        number: case.edition,
+    };
+    match case.call {
+        b'B' | b'D' | b'F' | b'U' | b'W' | b'Y' => on_octets(&edition, &case, out),
+        _ => on_name(&edition, &case, out),
+    }
 }

@@ -1,102 +1,54 @@
 // The lent buffers: what stands in one before a call, and what of it a call changed.
-ghost use Rattle.std.specs.Prelude.{◌≡◌, ◌-◌, ◌%◌, ◌≤◌, length};
+use std::alloc::{AllocError, Global};
+use std::io::Write;
+use std::{array, io};
 
-use crate::printed::{put_byte, put_hex};
-
-// What entry i of a buffer of code points holds before. A lent buffer has at most 300 entries, so no two hold the same.
-fn code_before(i: usize) -> u32
-    ensures { result ≡ 2863311530 - i % 1024 }
-{
-    2863311530 - (i % 1024) as u32
+// What a buffer lends: code points or octets.
+pub(crate) trait Entry: Copy + PartialEq + Into<u32> {
+    // What the entry at i holds before a call. A lent buffer of code points has at most 300 entries, so no two hold the same.
+    fn before(i: usize) -> Self;
 }
 
-// What entry i of a buffer of octets holds before.
-fn octet_before(i: usize) -> u8
-    ensures { result ≡ 255 - i % 16 }
-{
-    255 - (i % 16) as u8
-}
-
-pub(crate) fn fill_codes(lent: &mut [u32]) {
-    let mut i: usize = 0;
-    while i < lent.len() {
-        lent[i] = code_before(i);
-        i += 1;
+impl Entry for u32 {
+    fn before(i: usize) -> u32 {
+        0xAAAAAAAA - (i % 1024) as u32
     }
 }
 
-pub(crate) fn fill_octets(lent: &mut [u8]) {
-    let mut i: usize = 0;
-    while i < lent.len() {
-        lent[i] = octet_before(i);
-        i += 1;
+impl Entry for u8 {
+    fn before(i: usize) -> u8 {
+        255 - (i % 16) as u8
     }
 }
 
-// How many entries there are up to the last one that differs from what it held before.
-fn codes_changed(lent: &[u32]) -> usize
-    ensures { result ≤ length lent.now }
-{
-    let mut n = lent.len();
-    while 0 < n {
-        let i = n - 1;
-        if lent[i] != code_before(i) {
-            return n;
+// Puts into a buffer what it holds before a call.
+pub(crate) fn fill<T: Entry>(lent: &mut [T]) {
+    for (i, x) in lent.iter_mut().enumerate() {
+        *x = T::before(i);
+    }
+}
+
+// A buffer to lend.
+pub(crate) fn filled<T: Entry>(alloc: Global, room: usize) -> Result<Vec<T>, AllocError> {
+    let mut buffer = vec![in alloc; T::before(0); room]?;
+    fill(buffer.as_mut_slice());
+    Ok(buffer)
+}
+
+// The entries up to the last one that was changed, a space before each, and - for one that holds what it held before.
+pub(crate) fn put_changed<T: Entry>(out: &mut impl Write, lent: &[T]) -> io::Result<()> {
+    let last = lent
+        .iter()
+        .enumerate()
+        .rposition(|(i, x)| *x != T::before(i));
+    let n = last.map_or(0, |i| i + 1);
+    for (i, x) in lent[..n].iter().enumerate() {
+        if *x == T::before(i) {
+            out.write_all(b" -")?;
+        } else {
+            let number: u32 = (*x).into();
+            write!(out, " {number:x}")?;
         }
-        n = i;
     }
-    0
-}
-
-fn octets_changed(lent: &[u8]) -> usize
-    ensures { result ≤ length lent.now }
-{
-    let mut n = lent.len();
-    while 0 < n {
-        let i = n - 1;
-        if lent[i] != octet_before(i) {
-            return n;
-        }
-        n = i;
-    }
-    0
-}
-
-// A space and an entry, or - where it holds what it held before.
-fn put_entry(rt: &impl Print, out: &mut [u8], from: usize, x: u32, before: u32) -> usize {
-    let o = put_byte(rt, out, from, b' ');
-    if x == before {
-        return put_byte(rt, out, o, b'-');
-    }
-    put_hex(rt, out, o, x)
-}
-
-// The entries of a buffer of code points, up to the last one that was changed.
-pub(crate) fn put_codes(rt: &impl Print, out: &mut [u8], from: usize, lent: &[u32]) -> usize {
-    let n = codes_changed(lent);
-    let mut o = from;
-    let mut i: usize = 0;
-    while i < n {
-        o = put_entry(rt, out, o, lent[i], code_before(i));
-        i += 1;
-    }
-    o
-}
-
-fn as_number(b: u8) -> u32
-    ensures { result ≡ b }
-{
-    b as u32
-}
-
-// The entries of a buffer of octets, up to the last one that was changed.
-pub(crate) fn put_octets(rt: &impl Print, out: &mut [u8], from: usize, lent: &[u8]) -> usize {
-    let n = octets_changed(lent);
-    let mut o = from;
-    let mut i: usize = 0;
-    while i < n {
-        o = put_entry(rt, out, o, as_number(lent[i]), as_number(octet_before(i)));
-        i += 1;
-    }
-    o
+    Ok(())
 }

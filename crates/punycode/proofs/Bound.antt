@@ -4,7 +4,7 @@
 -- `pot h bias` bounds what the digits to come can cost beyond what the steps to come pay. It has two values: a large integer makes the bias large, and
 -- with a bias of 54 or more a large integer has fewer digits. The inequality for one integer needs a test only where its digits become one more
 -- (`fits`, at 8,424 places), since between these places only the rise grows. Assumes nothing.
-use mathlib.Core.Path.{◌≡◌, refl, sym, ap, ◌∙◌}
+use mathlib.Core.Path.{◌≡◌, refl, ap, ◌∙◌}
 use mathlib.Core.Bool.{Bool, true, false, ◌&&◌, ◌||◌}
 use mathlib.Core.List.{List, [], ◌∷◌, ◌++◌}
 use Prim.Native.Nat.{ℕ, zero, suc, ◌+◌, ◌-◌, ◌*◌, ◌/◌, ◌%◌, ◌≤◌, ◌<◌}
@@ -348,4 +348,4 @@ ace_short l few each more =
 pub encodable_short : (l : List ℕ) → encodable l ≡ true → length l ≤ 15 → all_of near l ≡ true → length (ace l) ≤ 63
 encodable_short l h few each = split (length (below 0x80 l)) (length l)
     (λ y. ace_short l few each y)
-    (λ y. clash h (sym (encodable_basic l y)))
+    (λ y. clash h (encodable_basic l y))

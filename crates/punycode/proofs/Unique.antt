@@ -16,14 +16,13 @@ use Rattle.lists.specs.Front.{written}
 use Rattle.lists.specs.Tests.{pick, all_of}
 use Rattle.punycode.specs.Calls.{coder_number, coder_writes, Encodes, lower, Encoding, DecoderSays, small, taken, left, decoder_answers, Decodes}
 use Rattle.punycode.specs.Punycode.{alnum, ldh, encodable, ace}
-use Rattle.punycode.specs.declared.Decoded.{Decoded}
-use Rattle.punycode.specs.declared.Encoded.{Encoded}
+use Rattle.refusals.specs.Refusals.{Filled}
 use Rattle.punycode.proofs.Rungs.{lower_other}
 use Rattle.punycode.proofs.Theorems.{ace_ldh, ace_injective}
 
 -- ---- each call has one result
 
-module _ {label before after after' : List ℕ} {r r' : Encoded} where
+module _ {label before after after' : List ℕ} {r r' : Filled} where
   pub encodes_once : Encodes label before after r → Encodes label before after' r' → (after ≡ after') × (r ≡ r')
   encodes_once u v = (decided u.buffer v.buffer, decided u.answer v.answer)
 
@@ -41,7 +40,7 @@ decoding_once (left h f) (small g) = absurd (omega arith)
 decoding_once (left h f) (taken l g e) = absurd (f l e)
 decoding_once (left h f) (left g f') = (refl, refl)
 
-module _ {octets before after after' : List ℕ} {r r' : Decoded} where
+module _ {octets before after after' : List ℕ} {r r' : Filled} where
   pub decodes_once : Decodes octets before after r → Decodes octets before after' r' → (after ≡ after') × (r ≡ r')
   decodes_once u v =
       let e = decoding_once u.says v.says in (
@@ -82,14 +81,14 @@ unfolding coder_writes
 writes_ace l room e = rw e
 
 -- what a coder wrote with the number 0, a decoder that has room takes back to the label
-module _ {l before after : List ℕ} {r : Encoded} (coded : Encodes l before after r) (accepted : r.number ≡ 0) where
+module _ {l before after : List ℕ} {r : Filled} (coded : Encodes l before after r) (accepted : r.number ≡ 0) where
   wrote : take r.length after ≡ ace l
   wrote =
       let zero : coder_number l (length before) ≡ 0 = sym (ap (λ x. x.number) coded.answer) ∙ accepted in
       let w = writes_ace l (length before) zero in
       rw (coded.answer, coded.buffer, w) (front (ace l) before)
 
-  pub there_and_back : {buffer last : List ℕ} {q : Decoded} → 63 ≤ length buffer → Decodes (take r.length after) buffer last q
+  pub there_and_back : {buffer last : List ℕ} {q : Filled} → 63 ≤ length buffer → Decodes (take r.length after) buffer last q
       → (last ≡ written l buffer) × (q ≡ decoder_answers 0 l)
   there_and_back {buffer} {last} {q} room d =
       let zero : coder_number l (length before) ≡ 0 = sym (ap (λ x. x.number) coded.answer) ∙ accepted in

@@ -4,8 +4,7 @@ use Rattle.std.specs.Prelude.{◌≡◌, true, List, [], map, ℕ, ◌+◌, ◌�
 use Rattle.lists.specs.Front.{written}
 use Rattle.lists.specs.Tests.{pick, within}
 use Rattle.punycode.specs.Punycode.{ace, encodable}
-use Rattle.punycode.specs.declared.Decoded.{Decoded}
-use Rattle.punycode.specs.declared.Encoded.{Encoded}
+use Rattle.refusals.specs.Refusals.{Filled}
 
 -- octets of an encoded label, and code points of a decoded one: the room that a call asks for
 abbrev pub label_room : ℕ
@@ -24,10 +23,10 @@ unfoldable pub coder_writes : List ℕ → ℕ → List ℕ
 coder_writes label room = pick (eqb (coder_number label room) 0) (ace label) []
 
 -- it answers n, and writes xs
-abbrev pub coder_answers : ℕ → List ℕ → Encoded
+abbrev pub coder_answers : ℕ → List ℕ → Filled
 coder_answers n xs = record { number = n; place = 0; length = length xs }
 
-pub record Encodes (label before after : List ℕ) (r : Encoded) : Type 0 where
+pub record Encodes (label before after : List ℕ) (r : Filled) : Type 0 where
   pub answer : r ≡ coder_answers (coder_number label (length before)) (coder_writes label (length before))
   pub buffer : after ≡ written (coder_writes label (length before)) before
 
@@ -51,10 +50,10 @@ pub data DecoderSays (octets : List ℕ) (room : ℕ) : ℕ → List ℕ → Typ
   left : label_room ≤ room → ((l : List ℕ) → Encoding octets l → ⊥) → DecoderSays octets room 15 []
 
 -- it answers n, and writes xs
-abbrev pub decoder_answers : ℕ → List ℕ → Decoded
+abbrev pub decoder_answers : ℕ → List ℕ → Filled
 decoder_answers n xs = record { number = n; place = 0; length = length xs }
 
-pub record Decodes (octets before after : List ℕ) (r : Decoded) : Type 0 where
+pub record Decodes (octets before after : List ℕ) (r : Filled) : Type 0 where
   pub number : ℕ
   pub label : List ℕ
   pub says : DecoderSays octets (length before) number label

@@ -28,33 +28,35 @@ const SLOPE: u32 = SPAN + 1;
 pub(crate) const LIMIT: u32 = 0x110000;
 
 // 64 times the limit: above every delta of a label that is encoded.
-pub(crate) const BOUND: u32 = 0x4400000;
+pub(crate) const BOUND: u64 = 0x4400000;
 
+#[tactic(auto, unfolding(crate::specs::Punycode::threshold))]
 pub(crate) fn threshold(k: u32, bias: u32) -> u32
     ensures { (result ≡ Punycode.threshold k bias) × (1 ≤ result) × (result ≤ 26) }
 {
     if k <= bias {
-        return TMIN;
+        TMIN
+    } else {
+        (k - bias).min(TMAX)
     }
-    let t = k - bias;
-    if t >= TMAX { TMAX } else { t }
 }
 
+#[tactic(auto, unfolding(crate::specs::Punycode::damped))]
 fn damped(delta: u32, first: bool) -> u32
     ensures { (result ≡ Punycode.damped delta first) × (2 * result ≤ delta) }
 {
     if first { delta / DAMP } else { delta / 2 }
 }
 
-fn scaled(e: u32) -> u32
-    requires { e < 0x4400000 }
-    ensures { result ≡ Punycode.adapt_loop e 0 e }
+fn scaled(delta: u32) -> u32
+    requires { delta < 0x4400000 }
+    ensures { result ≡ Punycode.adapt_loop delta 0 delta }
 {
-    let mut d = e;
+    let mut d = delta;
     let mut k = 0;
     while d > STEEP {
-        d = d / SPAN;
-        k = k + BASE;
+        d /= SPAN;
+        k += BASE;
     }
     k + SLOPE * d / (d + SKEW)
 }

@@ -2,50 +2,10 @@
 ghost use Rattle.std.specs.Prelude.{◌≡◌};
 ghost use Rattle.punycode.specs.Punycode;
 
-fn alnum(c: u32) -> bool
-    ensures { result ≡ Punycode.alnum c }
-{
-    if c < 48 {
-        return false;
-    }
-    if c < 58 {
-        return true;
-    }
-    if c < 97 {
-        return false;
-    }
-    c < 123
-}
-
-fn ldh(c: u32) -> bool
-    ensures { result ≡ Punycode.ldh c }
-{
-    if c == 45 {
-        return true;
-    }
-    alnum(c)
-}
-
-fn wide(c: u32) -> bool
-    ensures { result ≡ Punycode.wide c }
-{
-    if c < 0x80 {
-        return false;
-    }
-    if c < 0xD800 {
-        return true;
-    }
-    if c < 0xE000 {
-        return false;
-    }
-    c < 0x110000
-}
-
+// A scalar value of 80 or more, or a letter, digit or hyphen.
+#[tactic(auto, unfolding(crate::specs::Punycode::allowed, crate::specs::Punycode::ldh, crate::specs::Punycode::alnum, crate::specs::Punycode::wide, lists::specs::Tests::within))]
 pub(crate) fn allowed(c: u32) -> bool
     ensures { result ≡ Punycode.allowed c }
 {
-    if wide(c) {
-        return true;
-    }
-    ldh(c)
+    matches!(c, 0x80..=0xD7FF | 0xE000..=0x10FFFF) || matches!(c, 0x61..=0x7A | 0x30..=0x39 | 0x2D)
 }

@@ -9,110 +9,57 @@ mod bias;
 mod coder;
 mod decoder;
 mod label;
+mod text;
 
-ghost use Rattle.std.specs.Prelude.{[], ◌≡◌};
-ghost use Rattle.punycode.specs.Calls.{coder_answers, Encodes, decoder_answers, Decodes};
+ghost use Rattle.punycode.specs.Calls.{Encodes, Decodes};
+ghost use Rattle.refusals.specs.Refusals.{filled};
+
+use refusals::{Refusal, Refused};
 
 // The room that a call asks for, in octets or in code points.
 const ROOM: usize = 63;
 
-// The numbers of document 01: the buffer is too short; the label is not encodable; its encoding is too long; not an encoded label.
-const SHORT: u8 = 1;
-
-const UNFIT: u8 = 13;
-
-const LONG: u8 = 14;
-
-const NOT_ENCODED: u8 = 15;
-
-// What the coder answers: the number, the place, which is always 0, and how many octets are written.
-#[derive(Clone, Copy)]
-pub struct Encoded {
-    pub number: u8,
-    pub place: usize,
-    pub length: usize,
-}
-
-// What the decoder answers: the same, of code points.
-#[derive(Clone, Copy)]
-pub struct Decoded {
-    pub number: u8,
-    pub place: usize,
-    pub length: usize,
-}
-
-fn refused_label(number: u8) -> Encoded
-    ensures { result ≡ coder_answers number [] }
-{
-    Encoded {
-        number: number,
-        place: 0,
-        length: 0,
-    }
-}
-
 // The encoding of a label.
-pub fn encode(label: &[u32], out: &mut [u8]) -> Encoded
-    ensures { Encodes label.now out.old out.new result }
+pub fn encode(label: &[u32], out: &mut [u8]) -> Result<usize, Refused>
+    ensures { Encodes label.now out.old out.new (filled result) }
 {
     if out.len() < ROOM {
-        return refused_label(SHORT);
+        return Err(Refusal::NoRoom.at(0));
     }
     if label.len() > ROOM {
-        return refused_label(UNFIT);
+        return Err(Refusal::NotEncodable.at(0));
     }
-    let mut text = [0u8; 80];
-    let coded = coder::ace(label, &mut text);
-    let n = coded.at;
-    let ok = coded.ok;
-    if !ok {
-        return refused_label(UNFIT);
-    }
+    let Some(text) = coder::ace(label) else {
+        return Err(Refusal::NotEncodable.at(0));
+    };
+    let ace = text.as_slice();
+    let n = ace.len();
     if n > ROOM {
-        return refused_label(LONG);
+        return Err(Refusal::Over63.at(0));
     }
-    out[..n].copy_from_slice(&text[..n]);
-    Encoded {
-        number: 0,
-        place: 0,
-        length: n,
-    }
-}
-
-fn refused_octets(number: u8) -> Decoded
-    ensures { result ≡ decoder_answers number [] }
-{
-    Decoded {
-        number: number,
-        place: 0,
-        length: 0,
-    }
+    out[..n].copy_from_slice(ace);
+    Ok(n)
 }
 
 // The label that octets encode.
-pub fn decode(octets: &[u8], out: &mut [u32]) -> Decoded
-    ensures { Decodes octets.now out.old out.new result }
+pub fn decode(octets: &[u8], out: &mut [u32]) -> Result<usize, Refused>
+    ensures { Decodes octets.now out.old out.new (filled result) }
 {
     if out.len() < ROOM {
-        return refused_octets(SHORT);
+        return Err(Refusal::NoRoom.at(0));
     }
-    let n = octets.len();
-    if n > ROOM {
-        return refused_octets(NOT_ENCODED);
+    if octets.len() > ROOM {
+        return Err(Refusal::NotEncoded.at(0));
     }
-    let mut low = [0u8; 64];
-    decoder::lowers(octets, &mut low);
-    let mut text = [0u32; 64];
-    let found = decoder::found(&low[0..n], &mut text);
-    let len = found.len;
-    let ok = found.ok;
-    if !ok {
-        return refused_octets(NOT_ENCODED);
-    }
-    lists::copy(&text[0..len], out);
-    Decoded {
-        number: 0,
-        place: 0,
-        length: len,
-    }
+    let mut low = [0; 64];
+    let low = &mut low[..octets.len()];
+    low.copy_from_slice(octets);
+    low.make_ascii_lowercase();
+    let mut text = [0; 64];
+    let Some(label) = decoder::found(low, &mut text) else {
+        return Err(Refusal::NotEncoded.at(0));
+    };
+    let n = label.len();
+    out[..n].copy_from_slice(label);
+    Ok(n)
 }

@@ -2,18 +2,17 @@
 -- every character is counted.
 -- Assumes nothing.
 use mathlib.Core.Path.{◌≡◌, refl, sym, ap, ◌∙◌}
-use mathlib.Core.Bool.{Bool, true, false, not, ◌&&◌, ◌||◌}
+use mathlib.Core.Bool.{Bool, true, false, not, ◌&&◌}
 use mathlib.Core.List.{List, [], ◌∷◌}
-use Prim.Native.Nat.{ℕ, suc, ◌+◌, ◌-◌, ◌≤◌, ◌<◌}
+use Prim.Native.Nat.{ℕ, suc, ◌+◌, ◌-◌, ◌<◌}
 use native.Mathlib.Omega.{arith}
-use lib.Dec.{eqb, leb, ltb}
+use lib.Dec.{ltb}
 use lib.ListN.{length, take, drop, get_or}
 use lib.Seq.{take_all}
-use borrow.Author.Tests.{eq-eqb, ne_eqb, lt-ltb, le-ltb, leb-true, leb-false}
+use borrow.Author.Tests.{eq-eqb, ne_eqb, lt-ltb, le-ltb}
 use Rattle.lists.specs.Tests.{pick}
 use Rattle.characters.specs.Characters.{hyphen}
-use Rattle.rules.specs.Permits.{Permits, ja_char, label_char}
-use Rattle.rules.specs.Rules.{is_middle_dot, ordinary}
+use Rattle.rules.specs.Permits.{Permits, label_char}
 use Rattle.rules.specs.Reader.{nothing, note, skip, length_fits, ending, after_character, after_hyphen, reader}
 use Rattle.rules.specs.declared.Seen.{Seen}
 
@@ -27,50 +26,6 @@ module _ (P : Permits) (s : Seen) (x : ℕ) where
   pub note_count : {t : Seen} → t ≡ note P s x → t.count ≡ s.count + 1
   unfolding note
   note_count e = ap (λ (r : Seen). r.count) e
-
-  pub note_is : {j d o h k : Bool} → h ≡ ja_char P x → j ≡ s.ja || h → d ≡ s.dot || eqb x 0x30FB → k ≡ ordinary P x → o ≡ s.ordinary || k
-      → ◌≡◌ {A = Seen} (record { count = s.count + 1; ja = j; dot = d; ordinary = o }) (note P s x)
-  unfolding note is_middle_dot
-  note_is eh ej ed ek eo = rw (ej, ed, eo, eh, ek)
-
--- ---- a length, and an end
-
-at_most : (n m : ℕ) → leb n m ≡ not (ltb m n)
-at_most n m = go (leb n m) refl
-  where
-    go : (b : Bool) → leb n m ≡ b → b ≡ not (ltb m n)
-    go true p = rw (le-ltb m n (leb-true n m p))
-    go false p = rw (lt-ltb m n (leb-false n m p))
-
-module _ (n : ℕ) (j : Bool) where
-  pub fits_japanese : j ≡ true → leb n 15 ≡ length_fits n j
-  unfolding length_fits
-  fits_japanese e = rw e (at_most n 15)
-
-  pub fits_short : j ≡ false → n < 3 → false ≡ length_fits n j
-  unfolding length_fits
-  fits_short e h = rw (e, lt-ltb n 3 h)
-
-  pub fits_ascii : j ≡ false → 3 ≤ n → leb n 63 ≡ length_fits n j
-  unfolding length_fits
-  fits_ascii e h = rw (e, le-ltb n 3 h) (at_most n 63)
-
-module _ (s : Seen) {b : Bool} (e : b ≡ length_fits s.count s.ja) where
-  pub end_dot : b ≡ true → s.dot ≡ true → s.ordinary ≡ ending s
-  unfolding ending
-  end_dot p q = rw (← e, p, q) (go s.ordinary)
-    where
-      go : (o : Bool) → o ≡ not (not o)
-      go true = refl
-      go false = refl
-
-  pub end_none : b ≡ true → s.dot ≡ false → true ≡ ending s
-  unfolding ending
-  end_none p q = rw (← e, p, q)
-
-  pub end_no : b ≡ false → false ≡ ending s
-  unfolding ending
-  end_no p = rw (← e, p)
 
 -- ---- the two rules
 

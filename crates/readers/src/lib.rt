@@ -5,9 +5,9 @@
 
 ghost use Rattle.std.specs.Prelude.{◌≡◌, ◌||◌, ◌+◌, ◌≤◌, ◌<◌, length};
 ghost use Rattle.rules.specs.Reader.{skip, note, length_fits, ending, after_character, after_hyphen, reader};
-ghost use Rattle.rules.specs.Editions.{today, today_with};
+ghost use Rattle.rules.specs.Editions.{permits, today, today_with};
 
-use characters::{is_japanese, kind_with};
+use characters::Edition;
 use labels::{in_label_with, is_ordinary_with};
 use rules::{IN_FORCE, Seen};
 
@@ -15,127 +15,94 @@ const HYPHEN: u32 = 0x2D;
 
 const MIDDLE_DOT: u32 = 0x30FB;
 
-fn either(a: bool, b: bool) -> bool
-    ensures { result ≡ (a || b) }
-{
-    if a { true } else { b }
-}
+const NOTHING: Seen = Seen {
+    count: 0,
+    ja: false,
+    dot: false,
+    ordinary: false,
+};
 
 // A hyphen more.
+#[tactic(auto, unfolding(rules::specs::Reader::skip))]
 fn skipped(s: Seen) -> Seen
     requires { s.count < 63 }
     ensures { result ≡ skip s }
 {
     Seen {
         count: s.count + 1,
-        ja: s.ja,
-        dot: s.dot,
-        ordinary: s.ordinary,
+        ..s
     }
 }
 
 // One character more.
-fn noted(kanji: &[u32], s: Seen, x: u32) -> Seen
+#[tactic(auto, unfolding(rules::specs::Reader::note, rules::specs::Rules::is_middle_dot, rules::specs::Permits::ja_char, rules::specs::Editions::edition_with))]
+fn noted(edition: &Edition, s: Seen, x: u32) -> Seen
     requires { s.count < 63 }
-    ensures { result ≡ note (today_with kanji.now) s x }
+    ensures { result ≡ note (permits edition.now) s x }
 {
-    let ja = either(s.ja, is_japanese(kind_with(kanji, IN_FORCE, x)));
-    let dot = either(s.dot, x == MIDDLE_DOT);
-    let ordinary = either(s.ordinary, is_ordinary_with(kanji, IN_FORCE, x));
     Seen {
         count: s.count + 1,
-        ja,
-        dot,
-        ordinary,
+        ja: s.ja || edition.is_japanese(x),
+        dot: s.dot || x == MIDDLE_DOT,
+        ordinary: s.ordinary || is_ordinary_with(edition, x),
     }
 }
 
 // May a label of n characters end here?
+#[tactic(auto, unfolding(rules::specs::Reader::length_fits))]
 fn length_fits(n: usize, ja: bool) -> bool
     ensures { result ≡ length_fits n ja }
 {
-    if ja {
-        return n <= 15;
-    }
-    if n < 3 {
-        return false;
-    }
-    n <= 63
+    if ja { n <= 15 } else { (3..=63).contains(&n) }
 }
 
+#[tactic(auto, unfolding(rules::specs::Reader::ending))]
 fn may_end(s: Seen) -> bool
     ensures { result ≡ ending s }
 {
-    if length_fits(s.count, s.ja) {
-        if s.dot {
-            return s.ordinary;
-        }
-        return true;
+    length_fits(s.count, s.ja) && (!s.dot || s.ordinary)
+}
+
+// Two functions that call each other, as the document has two rules; of a label that goes on both say the same.
+#[cycle(after_character_after_hyphen)]
+fn after_character(edition: &Edition, label: &[u32], s: Seen) -> bool
+    requires { s.count + length label.now ≤ 63 }
+    ensures { result ≡ after_character (permits edition.now) label.now s }
+{
+    match label {
+        [] => may_end(s),
+        [HYPHEN, rest @ ..] => after_hyphen(edition, rest, skipped(s)),
+        [x, rest @ ..] => in_label_with(edition, *x)
+            && after_character(edition, rest, noted(edition, s, *x)),
     }
-    false
 }
 
 #[cycle(after_character_after_hyphen)]
-fn after_character(kanji: &[u32], label: &[u32], s: Seen) -> bool
+fn after_hyphen(edition: &Edition, label: &[u32], s: Seen) -> bool
     requires { s.count + length label.now ≤ 63 }
-    ensures { result ≡ after_character (today_with kanji.now) label.now s }
+    ensures { result ≡ after_hyphen (permits edition.now) label.now s }
 {
-    if label.len() == 0 {
-        return may_end(s);
+    match label {
+        [] => false,
+        [HYPHEN, rest @ ..] => after_hyphen(edition, rest, skipped(s)),
+        [x, rest @ ..] => in_label_with(edition, *x)
+            && after_character(edition, rest, noted(edition, s, *x)),
     }
-    let x = label[0];
-    if x == HYPHEN {
-        return after_hyphen(kanji, &label[1..], skipped(s));
-    }
-    if in_label_with(kanji, IN_FORCE, x) {
-        return after_character(kanji, &label[1..], noted(kanji, s, x));
-    }
-    false
 }
 
-#[cycle(after_character_after_hyphen)]
-fn after_hyphen(kanji: &[u32], label: &[u32], s: Seen) -> bool
-    requires { s.count + length label.now ≤ 63 }
-    ensures { result ≡ after_hyphen (today_with kanji.now) label.now s }
-{
-    if label.len() == 0 {
-        return false;
-    }
-    let x = label[0];
-    if x == HYPHEN {
-        return after_hyphen(kanji, &label[1..], skipped(s));
-    }
-    if in_label_with(kanji, IN_FORCE, x) {
-        return after_character(kanji, &label[1..], noted(kanji, s, x));
-    }
-    false
-}
-
-// Over 63 characters no label is read: asked first, it bounds the depth of the calls.
+// What begins with no hyphen is read as if after a character, of which nothing is noted. Over 63 characters no label is read: asked first, it
+// bounds the depth of the calls.
 pub fn reads_with(kanji: &[u32], label: &[u32]) -> bool
     ensures { result ≡ reader (today_with kanji.now) label.now }
 {
-    let n = label.len();
-    if n == 0 {
-        return false;
+    let edition = Edition {
+        kanji,
+        number: IN_FORCE,
+    };
+    match label {
+        [] | [HYPHEN, ..] => false,
+        _ => label.len() <= 63 && after_character(&edition, label, NOTHING),
     }
-    if n > 63 {
-        return false;
-    }
-    let x = label[0];
-    if x == HYPHEN {
-        return false;
-    }
-    if in_label_with(kanji, IN_FORCE, x) {
-        let none = Seen {
-            count: 0,
-            ja: false,
-            dot: false,
-            ordinary: false,
-        };
-        return after_character(kanji, &label[1..], noted(kanji, none, x));
-    }
-    false
 }
 
 // The same by the kanji themselves.

@@ -8,10 +8,11 @@ use Prim.Native.Nat.{ℕ, suc}
 use lib.Dec.{eqb}
 use Rattle.lists.specs.Rows.{first}
 use Rattle.characters.specs.Characters.{ascii_set, any_kind}
-use Rattle.characters.specs.declared.Kind.{Kind}
+use Rattle.characters.specs.Kinds.{Kind}
 use Rattle.rules.specs.Labels.{period}
 use Rattle.rules.specs.Permits.{Permits, ja_char, label_char, middle}
-use Rattle.rules.specs.Rules.{unfit, is_middle_dot, ordinary, is_japanese, short, long, Asks, of_name, pretends, bare_dot, label_rows, name_rows, front_rows, text_rows, rules}
+use Rattle.rules.specs.Rules.{unfit, is_middle_dot, ordinary, is_japanese, short, long, of_name, pretends, bare_dot, label_rows, name_rows, front_rows, text_rows, rules}
+use Rattle.rules.specs.declared.Asks.{Asks}
 use Rattle.rules.specs.Hosts.{of_host, each_rows, host_rows, host_text_rows}
 use Rattle.rules.specs.Hopeful.{leftmost, grows, hopeful}
 use Rattle.rules.specs.Reader.{nothing, note, skip, after_character, after_hyphen, reader}

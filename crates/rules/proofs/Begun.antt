@@ -19,7 +19,7 @@ use Rattle.rules.specs.Rules.{is_middle_dot, ordinary, of_name, pretends, jp, So
 use Rattle.rules.specs.Grammar.{Derives, general, prefecture, listed}
 use Rattle.rules.specs.Pretends.{PRETENDS, Admitted}
 use Rattle.rules.specs.Hopeful.{begins, leftmost, grows, settled, HopeLaws}
-use Rattle.rules.specs.declared.Class.{Class}
+use Rattle.rules.specs.Verdicts.{Class}
 use Rattle.rules.proofs.Cuts.{labels_cut, labels_one}
 use Rattle.rules.proofs.Sound.{ascii_range, label_sound}
 use Rattle.rules.proofs.Derived.{of_middle, no_period}

@@ -12,13 +12,14 @@ use lib.ListN.{length, get_or}
 use borrow.Author.Tests.{eqb-false, ne_eqb, ltb-false, le-ltb, not-false}
 use Rattle.lists.specs.Tests.{all_of, any_of, same}
 use Rattle.lists.specs.Rows.{Row, row, first, without, Clear}
-use Rattle.lists.specs.declared.Answer.{Answer}
+use Rattle.lists.specs.Rows.{Answer}
 use Rattle.lists.proofs.Laws.{both}
 use Rattle.lists.proofs.Tables.{clear_before, refusing, accepted_clear, split_clear, join_clear, past_table, only, part_clear, whole_clear, without_both, first_only, never_given, hit}
 use Rattle.normal.specs.Normal.{normal_form}
 use Rattle.rules.specs.Labels.{labels}
 use Rattle.rules.specs.Permits.{Permits, middle, is_empty}
-use Rattle.rules.specs.Rules.{unfit, hyphen_edge, short, long, Asks, of_name, pretends, label_rows, Meets, jp, last_rows, name_rows, front_rows, text_rows}
+use Rattle.rules.specs.Rules.{unfit, hyphen_edge, short, long, of_name, pretends, label_rows, Meets, jp, last_rows, name_rows, front_rows, text_rows}
+use Rattle.rules.specs.declared.Asks.{Asks}
 use Rattle.rules.specs.Hosts.{of_host, each_rows, host_rows, host_text_rows}
 use Rattle.rules.proofs.Views.{Every, none, also}
 

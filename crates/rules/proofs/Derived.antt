@@ -17,7 +17,7 @@ use Rattle.rules.specs.Labels.{period, into_first, labels, join}
 use Rattle.rules.specs.Permits.{Permits, ja_char, InStretch, ShortMiddles, Laws, label_char, middle, is_empty}
 use Rattle.rules.specs.Rules.{unfit, is_japanese, long, Meets, jp, class_of}
 use Rattle.rules.specs.Grammar.{label, Derives, general, prefecture, listed}
-use Rattle.rules.specs.declared.Class.{Class}
+use Rattle.rules.specs.Verdicts.{Class}
 use Rattle.rules.proofs.ByName.{Passed}
 use Rattle.rules.proofs.Cuts.{labels_cut}
 use Rattle.rules.proofs.Sound.{low, label_sound, sound_label}

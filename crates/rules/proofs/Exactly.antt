@@ -13,7 +13,7 @@ use lib.ListN.{length, get_or}
 use borrow.Author.Tests.{eqb-true, not-false}
 use Rattle.lists.specs.Tests.{pick, all_of}
 use Rattle.lists.specs.Rows.{Row, row, first, without, Clear}
-use Rattle.lists.specs.declared.Answer.{Answer}
+use Rattle.lists.specs.Rows.{Answer}
 use Rattle.lists.proofs.Tables.{clear, clear_before, past_table, hit, of_rows, only, first_only, first_without, never_given}
 use Rattle.normal.proofs.Laws.{no_longer, not_twice}
 use Rattle.normal.specs.Normal.{normal_form}
@@ -22,9 +22,9 @@ use Rattle.rules.specs.Permits.{Permits, Laws}
 use Rattle.rules.specs.Rules.{is_japanese, hyphen_edge, short, long, of_name, pretends, label_rows, name_rows, front_rows, text_rows, class_of, verdict, rules, rules_but, accepted, refused, Formed}
 use Rattle.rules.specs.Grammar.{Derives}
 use Rattle.rules.specs.Pretends.{PAIR, PRETENDS, Admitted, Granted}
-use Rattle.rules.specs.declared.Class.{Class}
-use Rattle.rules.specs.declared.Class.TheVariants.{None, General, Prefecture}
-use Rattle.rules.specs.declared.Verdict.{Verdict}
+use Rattle.rules.specs.Verdicts.{Class}
+use Rattle.rules.specs.Verdicts.{None, General, Prefecture}
+use Rattle.rules.specs.Verdicts.{Verdict}
 use Rattle.rules.proofs.ByName.{past_9, clear_front, FrontPassed, clear_but, but_clear, clear_text, text_clear, text_cleared, but_cleared}
 use Rattle.rules.proofs.Cuts.{join_labels, labels_fit}
 use Rattle.rules.proofs.Derived.{passed_derives, named}

@@ -12,7 +12,7 @@ use lib.ListN.{length, take, drop, take-append-drop, length-append, get_or-appen
 use lib.Seq.{take-append_seam}
 use borrow.Author.Tests.{eqb-true, eq-eqb, ltb-false, le-ltb}
 use Rattle.lists.specs.Tests.{pick, within, all_of, any_of, same}
-use Rattle.lists.specs.declared.Answer.{Answer}
+use Rattle.lists.specs.Rows.{Answer}
 use Rattle.lists.proofs.Laws.{both, neither, or_left, or_right, refuted, clash, lt_or_le, all_append, any_append, any_weaker, same_is, same_refl}
 use Rattle.lists.proofs.Tables.{clear}
 use Rattle.characters.specs.Characters.{alnum, hyphen, ascii_set}

@@ -17,8 +17,8 @@ use Rattle.rules.specs.Permits.{Permits, ja_char, Laws, label_char, middle}
 use Rattle.rules.specs.Rules.{of_name, pretends, jp, Sound}
 use Rattle.rules.specs.Pretends.{Admitted}
 use Rattle.rules.specs.Hopeful.{begins, leftmost, filler, tries, grows, settled, HopeLaws}
-use Rattle.rules.specs.declared.Class.{Class}
-use Rattle.rules.specs.declared.Class.TheVariants.{General, Prefecture}
+use Rattle.rules.specs.Verdicts.{Class}
+use Rattle.rules.specs.Verdicts.{General, Prefecture}
 use Rattle.rules.proofs.Sound.{ascii_range}
 use Rattle.rules.proofs.Derived.{of_middle}
 use Rattle.rules.proofs.Pretends.{general_admitted, prefecture_admitted}

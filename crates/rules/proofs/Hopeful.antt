@@ -17,8 +17,8 @@ use Rattle.rules.specs.Permits.{Permits}
 use Rattle.rules.specs.Rules.{unfit, rules}
 use Rattle.rules.specs.Pretends.{Admitted}
 use Rattle.rules.specs.Hopeful.{MayBecome, grows, hopeful, HopeLaws}
-use Rattle.rules.specs.declared.Class.{Class}
-use Rattle.rules.specs.declared.Verdict.{Verdict}
+use Rattle.rules.specs.Verdicts.{Class}
+use Rattle.rules.specs.Verdicts.{Verdict}
 use Rattle.rules.proofs.Cuts.{join_labels, labels_fit}
 use Rattle.rules.proofs.Derived.{named}
 use Rattle.rules.proofs.Exactly.{class, number_accepted, accepted_derives}

@@ -12,7 +12,7 @@ use lib.ListN.{length, length-append}
 use borrow.Author.Tests.{eqb-true, ne_eqb, ltb-true, lt-ltb}
 use Rattle.lists.specs.Tests.{pick, all_of, any_of, index_of}
 use Rattle.lists.specs.Rows.{row, says, first, Clear}
-use Rattle.lists.specs.declared.Answer.{Answer}
+use Rattle.lists.specs.Rows.{Answer}
 use Rattle.lists.proofs.Laws.{both, neither, refuted, clash}
 use Rattle.lists.proofs.Scan.{found_inside}
 use Rattle.lists.proofs.Tables.{of_two, of_rows}

@@ -12,7 +12,7 @@ use Rattle.lists.specs.Rows.{Clear}
 use Rattle.lists.proofs.Laws.{by_test}
 use Rattle.characters.specs.Characters.{kind, any_kind, japanese}
 use Rattle.characters.specs.KanjiBits.{kanji_bits}
-use Rattle.characters.specs.declared.Kind.TheVariants.{Kanji, None}
+use Rattle.characters.specs.Kinds.{Kanji, None}
 use Rattle.normal.specs.Normal.{normal_form}
 use Rattle.rules.specs.Rules.{rules, rules_but, accepted, refused, Sound}
 use Rattle.rules.specs.Grammar.{Derives}
@@ -25,7 +25,7 @@ use Rattle.rules.specs.Tried.{said, meant, table, tried}
 use Rattle.rules.specs.HopefulTried.{Tells, tried_hopeful}
 use Rattle.rules.specs.EditionsTried.{AsTried, as_tried}
 use Rattle.rules.specs.Hopeful.{MayBecome, hopeful}
-use Rattle.rules.specs.declared.Class.{Class}
+use Rattle.rules.specs.Verdicts.{Class}
 use Rattle.rules.proofs.ReaderAgrees.{reader_agrees}
 use Rattle.rules.proofs.Exactly.{before_derives, accepted_derives, shrank, refused_17}
 use Rattle.rules.proofs.Hosts.{clear_exactly}

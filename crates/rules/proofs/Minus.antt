@@ -13,7 +13,7 @@ use lib.Seq.{append_snoc}
 use borrow.Author.Tests.{eqb-true, eq-eqb, not-true}
 use Rattle.lists.specs.Tests.{pick, within, all_of, any_of, index_of}
 use Rattle.lists.specs.Rows.{first}
-use Rattle.lists.specs.declared.Answer.{Answer}
+use Rattle.lists.specs.Rows.{Answer}
 use Rattle.lists.proofs.Laws.{or_left, or_right, by_test, refuted, clash, lt_or_le, any_append}
 use Rattle.lists.proofs.Scan.{found_inside, holds_there}
 use Rattle.lists.proofs.Tables.{hit, of_rows}
@@ -27,7 +27,7 @@ use Rattle.rules.specs.Labels.{period, into_first, labels}
 use Rattle.rules.specs.Permits.{Permits, ja_char, label_char, is_empty}
 use Rattle.rules.specs.Rules.{unfit, begins_with_hyphen, hyphen_edge, label_rows, name_rows, front_rows, text_rows, verdict, rules, refused}
 use Rattle.rules.specs.Hopeful.{hopeful}
-use Rattle.rules.specs.declared.Verdict.{Verdict}
+use Rattle.rules.specs.Verdicts.{Verdict}
 use Rattle.rules.proofs.ByName.{FrontPassed}
 use Rattle.rules.proofs.Cuts.{labels_cut}
 use Rattle.rules.proofs.Sound.{ends_snoc, ascii_range}

@@ -15,11 +15,12 @@ use Rattle.lists.proofs.Laws.{both, or_right, refuted, clash, same_is}
 use Rattle.characters.specs.Characters.{hyphen}
 use Rattle.rules.specs.Labels.{labels}
 use Rattle.rules.specs.Permits.{Permits, Laws, middle}
-use Rattle.rules.specs.Rules.{is_japanese, hyphen_pair, Asks, of_name, pretends, Sound}
+use Rattle.rules.specs.Rules.{is_japanese, hyphen_pair, of_name, pretends, Sound}
+use Rattle.rules.specs.declared.Asks.{Asks}
 use Rattle.rules.specs.Grammar as G
 use Rattle.rules.specs.Pretends.{PAIR, pair, PRETENDS, pretending, Admitted, ace_prefix, seems_encoded}
-use Rattle.rules.specs.declared.Class.{Class}
-use Rattle.rules.specs.declared.Class.TheVariants.{General, Prefecture}
+use Rattle.rules.specs.Verdicts.{Class}
+use Rattle.rules.specs.Verdicts.{General, Prefecture}
 use Rattle.rules.proofs.ByName.{Honest}
 use Rattle.rules.proofs.Cuts.{labels_cut}
 use Rattle.rules.proofs.Derived.{no_period}

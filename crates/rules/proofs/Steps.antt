@@ -11,7 +11,7 @@ use lib.ListN.{length, get_or}
 use borrow.Author.Tests.{eq-eqb, ne_eqb, lt-ltb, le-ltb}
 use Rattle.lists.specs.Tests.{any_of, index_of, same}
 use Rattle.lists.specs.Rows.{first}
-use Rattle.lists.specs.declared.Answer.{Answer}
+use Rattle.lists.specs.Rows.{Answer}
 use Rattle.lists.proofs.Tables.{clear, stands, hands_on, hit, passed_over}
 use Rattle.characters.specs.Characters.{hyphen}
 use Rattle.normal.specs.Normal.{normal_form, places}
@@ -19,7 +19,7 @@ use Rattle.rules.specs.Labels.{labels}
 use Rattle.rules.specs.Permits.{Permits, middle, is_empty}
 use Rattle.rules.specs.Rules.{unfit, begins_with_hyphen, ends_with_hyphen, hyphen_edge, of_name, label_rows, jp, last_rows, name_rows, front_rows, text_rows, class_of, verdict, by_labels, rules, accepted, refused}
 use Rattle.rules.specs.Hosts.{of_host, each_rows, host_rows, host_text_rows}
-use Rattle.rules.specs.declared.Verdict.{Verdict}
+use Rattle.rules.specs.Verdicts.{Verdict}
 use Rattle.rules.proofs.ByName.{label_cleared, front_clear, front_cleared}
 
 -- ---- a label

@@ -4,7 +4,8 @@
 use Rattle.std.specs.Prelude.{Bool, true, false, not, List, [], ◌≡◌, refl, ℕ, eqb}
 use Rattle.lists.specs.Tests.{pick, within}
 use Rattle.characters.specs.Characters.{kind, kind_with}
-use Rattle.characters.specs.declared.Kind.{Kind}
+use Rattle.characters.specs.Kinds.{Kind}
+use Rattle.characters.specs.declared.Edition.{Edition}
 use Rattle.rules.specs.Permits.{Permits}
 use Rattle.rules.specs.Prefectures.{latin_prefectures, prefectures}
 
@@ -32,6 +33,10 @@ edition_of e = edition_by kind e
 -- the same, of a table of kanji that is lent; of the bits of the kanji it is `edition_of` (proofs/Editions)
 unfoldable pub edition_with : List ℕ → ℕ → Permits
 edition_with table e = edition_by (kind_with table) e
+
+-- what is permitted by an edition whose table of kanji is lent with its number
+abbrev pub permits : Edition → Permits
+permits e = edition_with e.kanji.now e.number
 
 -- the one in force
 abbrev pub today : Permits

@@ -18,8 +18,8 @@ use Rattle.rules.specs.Rules.{front_rows, text_rows, class_of, verdict, rules, a
 use Rattle.rules.specs.Prefectures.{latin_prefectures, japanese_prefectures, prefectures}
 use Rattle.rules.specs.Editions.{middles_in, edition_with}
 use Rattle.rules.specs.Hopeful.{begins, leftmost, tries, grows, hopeful}
-use Rattle.rules.specs.declared.Class.TheVariants.{General, Prefecture}
-use Rattle.rules.specs.declared.Verdict.{Verdict}
+use Rattle.rules.specs.Verdicts.{General, Prefecture}
+use Rattle.rules.specs.Verdicts.{Verdict}
 
 -- the four, and numbers that are none of them: beside the four, and what eight bits would take for 4
 abbrev pub asked : List ℕ

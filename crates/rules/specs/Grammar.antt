@@ -4,8 +4,8 @@
 -- registry, like ABNF (RFC 5234), takes the two cases for one.
 use Rattle.std.specs.Prelude.{true, List, [], ◌∷◌, ◌++◌, ◌≡◌, ℕ, ◌≤◌, length}
 use Rattle.rules.specs.Permits.{Permits, ja_char, middle}
-use Rattle.rules.specs.declared.Class.{Class}
-use Rattle.rules.specs.declared.Class.TheVariants.{General, Prefecture}
+use Rattle.rules.specs.Verdicts.{Class}
+use Rattle.rules.specs.Verdicts.{General, Prefecture}
 
 -- *R
 pub data Star (R : ℕ → Type 0) : List ℕ → Type 0 where

@@ -8,7 +8,8 @@ use Rattle.rules.specs.Labels.{labels}
 use Rattle.rules.specs.Permits.{Permits, is_empty}
 use Rattle.rules.specs.Grammar.{ALNUM, label}
 use Rattle.rules.specs.Pretends.{PAIR}
-use Rattle.rules.specs.Rules.{Asks, asks, label_rows, front_rows}
+use Rattle.rules.specs.Rules.{asks, label_rows, front_rows}
+use Rattle.rules.specs.declared.Asks.{Asks}
 
 -- ---- the rows
 

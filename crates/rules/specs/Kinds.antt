@@ -2,8 +2,8 @@
 use Rattle.std.specs.Prelude.{Bool, false, ◌||◌, List, ℕ, eqb}
 use Rattle.lists.specs.Tests.{any_of}
 use Rattle.characters.specs.Characters.{kind_letter}
-use Rattle.characters.specs.declared.Kind.{Kind}
-use Rattle.characters.specs.declared.Kind.TheVariants.{Hiragana, Katakana, Kanji, Sign}
+use Rattle.characters.specs.Kinds.{Kind}
+use Rattle.characters.specs.Kinds.{Hiragana, Katakana, Kanji, Sign}
 use Rattle.rules.specs.Permits.{Permits}
 use Rattle.rules.specs.declared.Kinds.{Kinds}
 

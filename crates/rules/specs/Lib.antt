@@ -1,3 +1,4 @@
+pub mod Verdicts
 pub mod Labels
 pub mod Permits
 pub mod Kinds

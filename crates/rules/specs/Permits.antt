@@ -2,7 +2,7 @@
 use Rattle.std.specs.Prelude.{Bool, true, false, not, ◌||◌, List, [], ◌∷◌, ◌≡◌, ℕ, leb, length}
 use Rattle.lists.specs.Tests.{within, all_of, any_of, same}
 use Rattle.characters.specs.Characters.{ascii_set, any_kind}
-use Rattle.characters.specs.declared.Kind.{Kind}
+use Rattle.characters.specs.Kinds.{Kind}
 
 pub record Permits : Type 0 where
   -- whether there is such an edition (document 02, K12): by one that there is not every text is refused, with 25

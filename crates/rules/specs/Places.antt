@@ -2,8 +2,8 @@
 use Rattle.std.specs.Prelude.{List, [], ◌∷◌, map, ◌≡◌, ℕ, ◌+◌, eqb, length, take, drop, get_or}
 use Rattle.lists.specs.Tests.{pick}
 use Rattle.rules.specs.Labels.{labels, join}
-use Rattle.rules.specs.declared.Class.{Class}
-use Rattle.rules.specs.declared.Class.TheVariants.{None, General, Prefecture}
+use Rattle.rules.specs.Verdicts.{Class}
+use Rattle.rules.specs.Verdicts.{None, General, Prefecture}
 use Rattle.rules.specs.declared.LabelPlaces.{LabelPlaces}
 
 -- the starts of labels that are joined by periods, the first of them at a place: the next label starts past this one

@@ -6,7 +6,7 @@ use Rattle.normal.specs.Normal.{normal_form}
 use Rattle.rules.specs.Permits.{Permits}
 use Rattle.rules.specs.Grammar.{HYPHEN, ASCII-label, Derives}
 use Rattle.rules.specs.Rules.{is_japanese}
-use Rattle.rules.specs.declared.Class.{Class}
+use Rattle.rules.specs.Verdicts.{Class}
 
 -- hyphens in the third and fourth places, which RFC 5891 (4.2.3.1) sets aside
 pub data PAIR : List ℕ → Type 0 where

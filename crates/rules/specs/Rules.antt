@@ -3,14 +3,15 @@
 use Rattle.std.specs.Prelude.{Bool, true, false, not, ◌&&◌, ◌||◌, List, [], ◌∷◌, ◌++◌, ◌↔◌, ◌≡◌, ℕ, ◌-◌, eqb, ltb, length, get_or}
 use Rattle.lists.specs.Tests.{pick, all_of, any_of, index_of, same}
 use Rattle.lists.specs.Rows.{Row, row, first, without}
-use Rattle.lists.specs.declared.Answer.{Answer}
+use Rattle.lists.specs.Rows.{Answer}
 use Rattle.characters.specs.Characters.{hyphen}
 use Rattle.normal.specs.Normal.{normal_form, places}
+use Rattle.rules.specs.declared.Asks.{Asks}
 use Rattle.rules.specs.Labels.{period, labels}
 use Rattle.rules.specs.Permits.{Permits, ja_char, label_char, middle, is_empty}
-use Rattle.rules.specs.declared.Class.{Class}
-use Rattle.rules.specs.declared.Class.TheVariants.{None, General, Prefecture}
-use Rattle.rules.specs.declared.Verdict.{Verdict}
+use Rattle.rules.specs.Verdicts.{Class}
+use Rattle.rules.specs.Verdicts.{None, General, Prefecture}
+use Rattle.rules.specs.Verdicts.{Verdict}
 
 -- ---- characters
 
@@ -63,10 +64,6 @@ hyphen_pair l = hyphen (get_or l 2 0) && hyphen (get_or l 3 0)
 
 -- what a family of names asks of a label: how many characters an ASCII one must have, and whether the pair is refused
 -- in every label or in an ASCII one alone
-pub record Asks : Type 0 where
-  pub least : ℕ
-  pub every_pair : Bool
-
 abbrev pub asks : ℕ → Bool → Asks
 asks least every_pair = record { least = least; every_pair = every_pair }
 

@@ -14,13 +14,14 @@ use Rattle.normal.specs.Normal.{replaced_from, compose, normal_placed, normal_fo
 use Rattle.rules.specs.Labels.{period, into_first, labels}
 use Rattle.rules.specs.Permits.{Permits, ja_char, label_char, middle, is_empty}
 use Rattle.rules.specs.Rules.{unfit, is_middle_dot, ordinary, is_japanese, begins_with_hyphen, ends_with_hyphen}
-use Rattle.rules.specs.Rules.{hyphen_edge, short, long, hyphen_pair, Asks, asks, pretends, bare_dot, label_rows, jp}
+use Rattle.rules.specs.Rules.{hyphen_edge, short, long, hyphen_pair, asks, pretends, bare_dot, label_rows, jp}
+use Rattle.rules.specs.declared.Asks.{Asks}
 use Rattle.rules.specs.Rules.{name_rows, front_rows, text_rows, class_of, verdict, rules, rules_but, accepted, refused}
 use Rattle.rules.specs.Prefectures.{latin_prefectures, japanese_prefectures, prefectures}
 use Rattle.rules.specs.Editions.{middles_in, edition_with, today_with}
-use Rattle.rules.specs.declared.Class.{Class}
-use Rattle.rules.specs.declared.Verdict.{Verdict}
-use Rattle.rules.specs.declared.Class.TheVariants.{General, Prefecture}
+use Rattle.rules.specs.Verdicts.{Class}
+use Rattle.rules.specs.Verdicts.{Verdict}
+use Rattle.rules.specs.Verdicts.{General, Prefecture}
 
 -- a text that is accepted, with its class and its normal form; or refused, with its number and its place; or refused so
 -- where without the row of that number another number and place are given: both rows apply to it; or a label at place 4

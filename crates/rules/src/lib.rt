@@ -9,10 +9,9 @@
 // The edition in force (specs/Editions).
 pub const IN_FORCE: u32 = 4;
 
-// General-use or prefecture with number 0, and none otherwise.
-#[derive(Clone, Copy)]
+// The class of an accepted name.
+#[derive(Clone, Copy, PartialEq, Eq, Debug)]
 pub enum Class {
-    None,
     General,
     Prefecture,
 }
@@ -34,12 +33,12 @@ pub struct LabelPlaces {
     pub lengths: [usize; 3],
 }
 
-// What the rules say of a text.
+// What a family of names asks of a label: how many characters an ASCII one has at least, and whether hyphens in the third and fourth places
+// are refused in every label or in an ASCII one alone.
 #[derive(Clone, Copy)]
-pub struct Verdict {
-    pub number: u8,
-    pub place: usize,
-    pub class: Class,
+pub struct Asks {
+    pub least: usize,
+    pub every_pair: bool,
 }
 
 // What the second reader has seen of a label: how many characters, and whether one is Japanese, the middle dot, a Japanese

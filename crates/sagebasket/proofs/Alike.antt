@@ -14,7 +14,7 @@ use borrow.Author.Tests.{ne_eqb}
 use Rattle.lists.specs.Tests.{pick}
 use Rattle.lists.specs.Front.{written}
 use Rattle.lists.specs.Rows.{Row, row, first, given, Gives}
-use Rattle.lists.specs.declared.Answer.{Answer}
+use Rattle.lists.specs.Rows.{Answer}
 use Rattle.lists.proofs.Laws.{lt_or_le, by_test}
 use Rattle.lists.proofs.Tables.{stands}
 use Rattle.normal.specs.Normal.{normal_form}
@@ -24,10 +24,10 @@ use Rattle.rules.specs.Rules.{text_rows, verdict}
 use Rattle.rules.specs.Hosts.{host_text_rows}
 use Rattle.rules.proofs.Steps.{front_3, first_25, first_front, host_front}
 use Rattle.names.specs.Calls.{check_rows, Checks, kinds_said, ascii_rows, AsciiForms}
-use Rattle.names.specs.declared.AsciiForm.{AsciiForm}
-use Rattle.names.specs.declared.Checked.{Checked}
+use Rattle.names.specs.Calls.{AsciiForm}
+use Rattle.names.specs.Calls.{Checked}
 use Rattle.hosts.specs.Hosts.{coded_rows, rows, call_rows, HostForms}
-use Rattle.hosts.specs.declared.HostForm.{HostForm}
+use Rattle.refusals.specs.Refusals.{Filled}
 use Rattle.sagebasket.specs.Outside.{of_checked, of_ascii_form, of_host_form, Tells}
 
 -- what is said of one text past 256 is said of every one
@@ -102,11 +102,11 @@ module _ (P : Permits) (before after : List ℕ) (t u : List ℕ) (long : 256 < 
       let n = behind_some (ltb (length before) 192) _ (λ z. some_number P (sym (ap (λ (a : Answer). a.number) e) ∙ z)) in
       record { gives = refused_alike (behind _ _ _ (e ∙ sym (name_over P u long' _))) n (rw (ne_eqb _ 0 n)) c.gives }
 
-  hosts_alike : {r : HostForm} → HostForms P t before after r → HostForms P u before after r
+  hosts_alike : {r : Filled} → HostForms P t before after r → HostForms P u before after r
   unfolding call_rows rows
   hosts_alike c =
       let e = host_over P t long (coded_rows P (normal_form t)) in
-      let n = behind_some (ltb (length before) 255) _ (λ z. omega (arith, sym (ap (λ (a : Answer). a.number) e) ∙ z)) in
+      let n = behind_some (ltb (length before) 255) (rows P t) (λ z. omega (arith, sym (ap (λ (a : Answer). a.number) e) ∙ z)) in
       record { gives = refused_alike (behind _ _ _ (e ∙ sym (host_over P u long' _))) n refl c.gives }
 
 -- ---- and so what is told of them
@@ -124,4 +124,4 @@ module _ (P : Permits) (before after answer : List ℕ) (n : ℕ) where
   ascii_alike = told_alike of_ascii_form (λ (t : List ℕ) (r : AsciiForm). AsciiForms P t before after r) (λ t u h g r. forms_alike P before after t u h g) answer n
 
   pub host_alike : Alike (λ (t : List ℕ). Tells of_host_form (HostForms P t before after) answer n)
-  host_alike = told_alike of_host_form (λ (t : List ℕ) (r : HostForm). HostForms P t before after r) (λ t u h g r. hosts_alike P before after t u h g) answer n
+  host_alike = told_alike of_host_form (λ (t : List ℕ) (r : Filled). HostForms P t before after r) (λ t u h g r. hosts_alike P before after t u h g) answer n

@@ -4,9 +4,9 @@
 use mathlib.Core.Path.{◌≡◌, sym, ap, subst, ◌∙◌}
 use mathlib.Core.List.{List}
 use mathlib.Core.Logic.{⊎_elim}
-use Prim.Native.Nat.{ℕ, ◌+◌, ◌-◌, ◌≤◌, ◌<◌, min}
+use Prim.Native.Nat.{ℕ, ◌+◌, ◌≤◌, ◌<◌, min}
 use native.Mathlib.Omega.{arith}
-use lib.ListN.{length, take, drop, get_or, set, length-set, replicate, length-replicate}
+use lib.ListN.{length, take, get_or, set, length-set, replicate, length-replicate}
 use lib.Seq.{take-set-le, take-set-lt, get_or-set_same, get_or-set_other, take-take, length-take-le}
 use borrow.Author.Tests.{lt-ltb, le-ltb}
 use Rattle.lists.proofs.Laws.{lt_or_le}
@@ -36,15 +36,14 @@ module _ (s : List ℕ) (whole : length s ≡ 258) (c : ℕ) where
 
 -- ---- a look
 
-module _ (s : List ℕ) (whole : length s ≡ 258) (n : ℕ) (lent : n ≡ min (get_or s 256 0) 257) where
-  abbrev part : List ℕ
-  part = take (n - 0) (drop 0 s)
-
+module _ (s : List ℕ) (whole : length s ≡ 258) {part : List ℕ} (lent : part ≡ take (min (get_or s 256 0) 257) s) where
   part_past : 256 < get_or s 256 0 → 256 < length part
-  part_past h = omega (arith, length-take-le (n - 0) s (omega arith))
+  part_past h = rw lent (omega (arith, length-take-le (min (get_or s 256 0) 257) s (omega arith)))
 
   part_is : get_or s 256 0 ≤ 256 → part ≡ take (get_or s 256 0) (take 256 s)
-  part_is h = let e : n - 0 ≡ get_or s 256 0 = omega arith in ap (λ (k : ℕ). take k s) e ∙ sym (take-take (get_or s 256 0) 256 s h)
+  part_is h =
+      let e : min (get_or s 256 0) 257 ≡ get_or s 256 0 = omega arith in
+      lent ∙ ap (λ (k : ℕ). take k s) e ∙ sym (take-take (get_or s 256 0) 256 s h)
 
   -- by any rules that say one thing past 256
   pub looked_at : {A : Type 0} (says : List ℕ → A) (over : A) → ((t : List ℕ) → 256 < length t → says t ≡ over) → says part ≡ looked_by says over (held s)

@@ -1,4 +1,5 @@
 mod Small
+mod Said
 mod Wishing
 mod Alike
 mod Held

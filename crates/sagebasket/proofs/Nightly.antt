@@ -12,7 +12,7 @@ use borrow.Author.Tests.{lt-ltb, le-ltb}
 use Rattle.rules.specs.Editions.{is_edition, edition_of, today}
 use Rattle.rules.specs.Hopeful.{MayBecome, hopeful}
 use Rattle.rules.specs.Kinds.{no_kinds}
-use Rattle.rules.specs.declared.Class.{Class}
+use Rattle.rules.specs.Verdicts.{Class}
 use Rattle.rules.specs.declared.LabelPlaces.{LabelPlaces}
 use Rattle.names.specs.Calls.{judged, Checks, AsciiForms}
 use Rattle.hosts.specs.Hosts.{host_judged, HostForms}

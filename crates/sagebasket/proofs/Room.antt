@@ -11,7 +11,7 @@ use lib.ListN.{length, take, get_or}
 use borrow.Author.Tests.{le-ltb}
 use Rattle.lists.specs.Tests.{pick, all_of}
 use Rattle.lists.specs.Rows.{Row, first}
-use Rattle.lists.specs.declared.Answer.{Answer}
+use Rattle.lists.specs.Rows.{Answer}
 use Rattle.lists.proofs.Laws.{clash}
 use Rattle.lists.proofs.Tables.{of_two, of_rows, passed_over}
 use Rattle.normal.specs.Normal.{normal_form}
@@ -21,13 +21,11 @@ use Rattle.rules.specs.Editions.{edition_of, today}
 use Rattle.rules.specs.Rules.{label_rows, name_rows, front_rows, text_rows, verdict, rules}
 use Rattle.rules.specs.Hosts.{of_host, each_rows, host_rows, host_text_rows}
 use Rattle.names.specs.Calls.{judged, check_rows, Checks, ascii_rows, AsciiForms}
-use Rattle.names.specs.declared.AsciiForm.{AsciiForm}
-use Rattle.names.specs.declared.Checked.{Checked}
+use Rattle.names.specs.Calls.{AsciiForm}
+use Rattle.names.specs.Calls.{Checked}
 use Rattle.hosts.specs.Hosts.{coded_rows, rows, host_rules, host_judged, call_rows, HostForms}
-use Rattle.hosts.specs.declared.HostForm.{HostForm}
+use Rattle.refusals.specs.Refusals.{Filled}
 use Rattle.punycode.specs.Calls.{coder_number, Encodes, DecoderSays, small, taken, left, Decodes}
-use Rattle.punycode.specs.declared.Decoded.{Decoded}
-use Rattle.punycode.specs.declared.Encoded.{Encoded}
 use Rattle.punycode.specs.Punycode.{ace, encodable}
 use Rattle.live.specs.Live.{looked_by, no_text, too_long, looked}
 use Rattle.live.specs.HostLooks.{host_too_long, host_looked}
@@ -91,13 +89,13 @@ module _ {before after answer : List ℕ} {n : ℕ} where
 
     pub host_never_1 : Tells of_host_form (HostForms P text before after) answer n → 255 ≤ length before → n ≡ 1 → ⊥
     unfolding of_host_form unnamed numbers
-    host_never_1 t room e = host_other P text (length before) room (sym (ap (λ (r : HostForm). r.number) t.meets.gives.result) ∙ sym (returned t) ∙ e)
+    host_never_1 t room e = host_other P text (length before) room (sym (ap (λ (r : Filled). r.number) t.meets.gives.result) ∙ sym (returned t) ∙ e)
 
   pub encode_never_1 : {label : List ℕ} → Tells of_encoded (Encodes label before after) answer n → 63 ≤ length before → n ≡ 1 → ⊥
   unfolding of_encoded unnamed numbers coder_number
   encode_never_1 {label} t room e =
       coder (encodable label) (leb (length (ace label)) 63)
-      (sym (ap (λ (r : Encoded). r.number) t.meets.answer ∙ rw (le-ltb (length before) 63 room)) ∙ sym (returned t) ∙ e)
+      (sym (ap (λ (r : Filled). r.number) t.meets.answer ∙ rw (le-ltb (length before) 63 room)) ∙ sym (returned t) ∙ e)
     where
       coder : (b c : Bool) → pick {A = ℕ} b (pick c 0 14) 13 ≡ 1 → ⊥
       coder true true z = omega arith
@@ -107,7 +105,7 @@ module _ {before after answer : List ℕ} {n : ℕ} where
   pub decode_never_1 : {octets : List ℕ} → Tells of_decoded (Decodes octets before after) answer n → 63 ≤ length before → n ≡ 1 → ⊥
   unfolding of_decoded unnamed numbers
   decode_never_1 t room e =
-      decoder t.meets.says (sym (ap (λ (r : Decoded). r.number) t.meets.answer) ∙ sym (returned t) ∙ e)
+      decoder t.meets.says (sym (ap (λ (r : Filled). r.number) t.meets.answer) ∙ sym (returned t) ∙ e)
     where
       decoder : {octets l : List ℕ} {k : ℕ} → DecoderSays octets (length before) k l → k ≡ 1 → ⊥
       decoder (small h) z = omega arith

@@ -13,7 +13,7 @@ use borrow.Author.Tests.{eqb-true, le-leb, leb-true, lt-ltb, le-ltb}
 use Rattle.lists.specs.Tests.{pick, all_of, any_of, index_of}
 use Rattle.lists.specs.Front.{written}
 use Rattle.lists.specs.Rows.{row, first, given}
-use Rattle.lists.specs.declared.Answer.{Answer}
+use Rattle.lists.specs.Rows.{Answer}
 use Rattle.lists.proofs.Laws.{lt_or_le, by_test, index_bound}
 use Rattle.lists.proofs.Tables.{of_two, of_rows, stands}
 use Rattle.normal.specs.Normal.{normal_form}
@@ -29,16 +29,14 @@ use Rattle.rules.proofs.Steps.{front_3, host_front}
 use Rattle.fronts.specs.Fronts.{shown}
 use Rattle.ascii.specs.Ascii.{uncoded}
 use Rattle.names.specs.Calls.{judged, check_rows, Checks, AsciiForms}
-use Rattle.names.specs.declared.AsciiForm.{AsciiForm}
-use Rattle.names.specs.declared.Checked.{Checked}
-use Rattle.names.specs.declared.Judged.{Judged}
+use Rattle.names.specs.Calls.{AsciiForm}
+use Rattle.names.specs.Calls.{Checked}
+use Rattle.names.specs.Calls.{Judged}
 use Rattle.names.proofs.Placing.{check_places}
 use Rattle.hosts.specs.Hosts.{coded_rows, rows, host_rules, call_rows, host_judged, HostForms}
-use Rattle.hosts.specs.declared.HostForm.{HostForm}
-use Rattle.hosts.specs.declared.HostJudged.{HostJudged}
+use Rattle.refusals.specs.Refusals.{Filled}
+use Rattle.hosts.specs.Hosts.{HostJudged}
 use Rattle.punycode.specs.Calls.{Encodes, Decodes}
-use Rattle.punycode.specs.declared.Decoded.{Decoded}
-use Rattle.punycode.specs.declared.Encoded.{Encoded}
 use Rattle.answer.proofs.Digits.{front_near, text_near, place_bound}
 use Rattle.sagebasket.specs.Steps.{SmallThree, SmallPlaces, Small}
 
@@ -190,11 +188,11 @@ judged_small P text e = rw e (record {
 -- ---- the calls on a host
 
 module _ (P : Permits) {text before after : List ℕ} where
-  pub host_small : {r : HostForm} → HostForms P text before after r → length after ≡ 255 → (r.place ≤ 257) × (r.length ≤ 257)
+  pub host_small : {r : Filled} → HostForms P text before after r → length after ≡ 255 → (r.place ≤ 257) × (r.length ≤ 257)
   unfolding call_rows host_rules
   host_small c k =
       let p = of_two Near (row 1 (ltb (length before) 255) 0 ∷ []) (rows P text) (row_near 1 _ 0 (omega arith)) (host_near P text) in
-      (omega (arith, p, ap (λ (x : HostForm). x.place) c.gives.result), omega (arith, fits _ before k c.gives.buffer, ap (λ (x : HostForm). x.length) c.gives.result))
+      (omega (arith, p, ap (λ (x : Filled). x.place) c.gives.result), omega (arith, fits _ before k c.gives.buffer, ap (λ (x : Filled). x.length) c.gives.result))
 
 pub host_judged_small : (P : Permits) (text : List ℕ) {r : HostJudged} → r ≡ host_judged P text → (r.place ≤ 257) × (r.length ≤ 257)
 unfolding host_judged
@@ -202,8 +200,8 @@ host_judged_small P text e = rw e (host_near P text, omega (arith, shown_few tex
 
 -- ---- coder and decoder
 
-pub encode_small : {label before after : List ℕ} {r : Encoded} → Encodes label before after r → length after ≡ 63 → (r.place ≤ 257) × (r.length ≤ 257)
+pub encode_small : {label before after : List ℕ} {r : Filled} → Encodes label before after r → length after ≡ 63 → (r.place ≤ 257) × (r.length ≤ 257)
 encode_small {before = before} h k = rw h.answer (omega arith, omega (arith, fits _ before k h.buffer))
 
-pub decode_small : {octets before after : List ℕ} {r : Decoded} → Decodes octets before after r → length after ≡ 63 → (r.place ≤ 257) × (r.length ≤ 257)
+pub decode_small : {octets before after : List ℕ} {r : Filled} → Decodes octets before after r → length after ≡ 63 → (r.place ≤ 257) × (r.length ≤ 257)
 decode_small {before = before} h k = rw h.answer (omega arith, omega (arith, fits h.label before k h.buffer))

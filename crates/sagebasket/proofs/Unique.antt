@@ -17,7 +17,7 @@ use Rattle.hosts.proofs.Unique as hosts
 use Rattle.punycode.specs.Calls.{Encodes, Decodes}
 use Rattle.punycode.proofs.Unique.{encodes_once, decodes_once}
 use Rattle.searches.specs.declared.Searched.{Searched}
-use Rattle.wishes.specs.declared.Wished.{Wished}
+use Rattle.wishes.specs.Wishes.{Wished}
 use Rattle.live.specs.declared.Live.{Live}
 use Rattle.sagebasket.specs.Outside.{of_checked, of_ascii_form, of_host_form, of_encoded, of_decoded, Tells, OfUtf8, Counts, Wins, Shows, held}
 

@@ -1,7 +1,7 @@
 -- Some answers in numbers, and what some states hold, by computation.
 use Rattle.std.specs.Prelude.{Bool, true, false, [], ◌∷◌, ◌++◌, map, ◌≡◌, refl, replicate}
 use Rattle.rules.specs.Places.{first_three}
-use Rattle.rules.specs.declared.Class.TheVariants.{General, Prefecture}
+use Rattle.rules.specs.Verdicts.{General, Prefecture}
 use Rattle.rules.specs.declared.Kinds.{Kinds}
 use Rattle.live.specs.Live.{fresh, stepped, looked_by}
 use Rattle.sagebasket.specs.Outside.{class_number, kinds_number, numbers, unnamed, of_checked, of_ascii_form}

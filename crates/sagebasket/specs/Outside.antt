@@ -5,19 +5,17 @@ use Rattle.std.specs.Prelude.{Bool, true, false, List, [], ◌∷◌, ◌++◌, 
 use Rattle.lists.specs.Tests.{pick}
 use Rattle.rules.specs.Kinds.{no_kinds}
 use Rattle.rules.specs.Places.{first_three, no_places}
-use Rattle.rules.specs.declared.Class.{Class}
-use Rattle.rules.specs.declared.Class.TheVariants.{None, General, Prefecture}
+use Rattle.rules.specs.Verdicts.{Class}
+use Rattle.rules.specs.Verdicts.{None, General, Prefecture}
 use Rattle.rules.specs.declared.Kinds.{Kinds}
 use Rattle.rules.specs.declared.LabelPlaces.{LabelPlaces}
-use Rattle.names.specs.declared.AsciiForm.{AsciiForm}
-use Rattle.names.specs.declared.Checked.{Checked}
-use Rattle.names.specs.declared.Judged.{Judged}
-use Rattle.hosts.specs.declared.HostForm.{HostForm}
-use Rattle.hosts.specs.declared.HostJudged.{HostJudged}
-use Rattle.punycode.specs.declared.Decoded.{Decoded}
-use Rattle.punycode.specs.declared.Encoded.{Encoded}
+use Rattle.names.specs.Calls.{AsciiForm}
+use Rattle.names.specs.Calls.{Checked}
+use Rattle.names.specs.Calls.{Judged}
+use Rattle.refusals.specs.Refusals.{Filled}
+use Rattle.hosts.specs.Hosts.{HostJudged}
 use Rattle.searches.specs.declared.Searched.{Searched}
-use Rattle.wishes.specs.declared.Wished.{Wished}
+use Rattle.wishes.specs.Wishes.{Wished}
 use Rattle.live.specs.Live.{looked_by}
 use Rattle.live.specs.declared.Live.{Live}
 use Rattle.utf8.specs.Utf8.{decoded}
@@ -57,16 +55,16 @@ of_ascii_form r = numbers r.number r.place r.class r.kinds r.length no_places
 unfoldable pub of_judged : Judged → List ℕ
 of_judged r = numbers r.number r.place r.class no_kinds r.length r.labels
 
-unfoldable pub of_host_form : HostForm → List ℕ
+unfoldable pub of_host_form : Filled → List ℕ
 of_host_form r = unnamed r.number r.place r.length
 
 unfoldable pub of_host_judged : HostJudged → List ℕ
 of_host_judged r = unnamed r.number r.place r.length
 
-unfoldable pub of_encoded : Encoded → List ℕ
+unfoldable pub of_encoded : Filled → List ℕ
 of_encoded r = unnamed r.number r.place r.length
 
-unfoldable pub of_decoded : Decoded → List ℕ
+unfoldable pub of_decoded : Filled → List ℕ
 of_decoded r = unnamed r.number r.place r.length
 
 -- ---- what a call tells

@@ -1,9 +1,8 @@
 -- What the functions below the calls ask and answer.
-use Rattle.std.specs.Prelude.{List, ◌≡◌, ℕ, ◌≤◌, length, take, get_or}
+use Rattle.std.specs.Prelude.{true, false, List, ◌≡◌, ℕ, ◌≤◌, Option, MatchOption, length, take, get_or}
 use Rattle.rules.specs.declared.LabelPlaces.{LabelPlaces}
 use Rattle.utf8.specs.Decodes.{codes_of}
 use Rattle.utf8.specs.Utf8.{decoded}
-use Rattle.sagebasket.specs.declared.octets.Read.{Read}
 
 -- place, length and labels are numbers of 32 bits, and far less
 abbrev pub SmallThree : List ℕ → Type 0
@@ -19,8 +18,8 @@ pub record Small (at many : ℕ) (labels : LabelPlaces) : Type 0 where
   pub length : many ≤ 257
   pub stands : SmallPlaces labels
 
--- whether octets are UTF-8, and up to 257 of their code points, at the start of the text
-pub record Reads (octets text : List ℕ) (r : Read) : Type 0 where
-  pub ok : r.ok ≡ (decoded octets).ok
-  pub room : r.count ≤ length text
-  pub lent : take r.count text ≡ take 257 (codes_of octets)
+-- whether octets are UTF-8, and then how many of their code points, at most 257, stand at the start of the text
+abbrev pub Reads : List ℕ → List ℕ → Option ℕ → Type 0
+Reads octets text r =
+    MatchOption r ((decoded octets).ok ≡ false)
+    (λ n. ((decoded octets).ok ≡ true) × (n ≤ length text) × (take n text ≡ take 257 (codes_of octets)))

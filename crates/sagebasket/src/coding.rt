@@ -2,7 +2,7 @@
 ghost use Rattle.punycode.specs.Calls.{Encodes, Decodes};
 ghost use Rattle.sagebasket.specs.Outside.{of_encoded, of_decoded, Tells};
 
-use crate::numbers::plain;
+use crate::numbers::tell_written;
 
 // The encoding of a label, "xn--" and what follows: with 0 it is written.
 #[unsafe(no_mangle)]
@@ -13,10 +13,7 @@ pub extern "C" fn sagebasket_encode(
 ) -> u32
     ensures { Tells of_encoded (Encodes label.now ascii.old ascii.new) answer.new result }
 {
-    let coded = punycode::encode(label, ascii);
-    let number = coded.number;
-    *answer = plain(number, coded.place, coded.length);
-    number as u32
+    tell_written(punycode::encode(label, ascii), answer)
 }
 
 // The label that octets encode: with 0 it is written.
@@ -28,8 +25,5 @@ pub extern "C" fn sagebasket_decode(
 ) -> u32
     ensures { Tells of_decoded (Decodes ascii.now label.old label.new) answer.new result }
 {
-    let coded = punycode::decode(ascii, label);
-    let number = coded.number;
-    *answer = plain(number, coded.place, coded.length);
-    number as u32
+    tell_written(punycode::decode(ascii, label), answer)
 }

@@ -1,62 +1,62 @@
 // An answer in twelve numbers, which a caller lends: number, place, class, kinds, length, then the labels: count, starts, lengths.
 ghost use Rattle.std.specs.Prelude.{◌≡◌, ◌≤◌};
-ghost use Rattle.lists.specs.Tests.{pick};
-ghost use Rattle.sagebasket.specs.Outside.{flag, class_number, kinds_number, numbers, unnamed};
+ghost use Rattle.refusals.specs.Refusals.{number_of, filled};
+ghost use Rattle.rules.specs.Verdicts.{class_told};
+ghost use Rattle.sagebasket.specs.Outside.{class_number, kinds_number, numbers, unnamed};
 ghost use Rattle.sagebasket.specs.Steps.{Small};
 
+use refusals::Refused;
 use rules::{Class, Kinds, LabelPlaces};
 
-// 1 for yes, 0 for no.
-pub(crate) fn yes(answer: bool) -> u32
-    ensures { result ≡ flag answer }
-{
-    if answer { 1 } else { 0 }
-}
+// The check tells no kinds.
+pub(crate) const NO_KINDS: Kinds = Kinds {
+    hiragana: false,
+    katakana: false,
+    kanji: false,
+    sign: false,
+};
+
+// The ASCII form tells no label.
+pub(crate) const NO_LABELS: LabelPlaces = LabelPlaces {
+    count: 0,
+    starts: [0; 3],
+    lengths: [0; 3],
+};
 
 fn class_number(class: Class) -> u32
-    ensures { result ≡ class_number class }
+    ensures { result ≡ class_number (class_told class) }
 {
     match class {
-        Class::None => 0,
         Class::General => 1,
         Class::Prefecture => 2,
     }
 }
 
-// What a kind adds where it is found.
-fn worth(found: bool, bit: u32) -> u32
-    ensures { (result ≡ pick found bit 0) × (result ≤ bit) }
-{
-    if found { bit } else { 0 }
-}
-
 fn kinds_number(kinds: Kinds) -> u32
     ensures { result ≡ kinds_number kinds }
 {
-    let h = worth(kinds.hiragana, 1);
-    let k = worth(kinds.katakana, 2);
-    let j = worth(kinds.kanji, 4);
-    let s = worth(kinds.sign, 8);
-    h + k + j + s
+    u32::from(kinds.hiragana)
+        + 2 * u32::from(kinds.katakana)
+        + 4 * u32::from(kinds.kanji)
+        + 8 * u32::from(kinds.sign)
 }
 
-// The twelve numbers of an answer on a name.
-pub(crate) fn told(
-    number: u8,
-    place: usize,
+// Tells of an accepted name.
+pub(crate) fn tell_name(
     class: Class,
     kinds: Kinds,
     length: usize,
     labels: LabelPlaces,
-) -> [u32; 12]
-    requires { Small place length labels }
-    ensures { result ≡ numbers number place class kinds length labels }
+    answer: &mut [u32; 12],
+) -> u32
+    requires { Small 0 length labels }
+    ensures { (answer.new ≡ numbers 0 0 (class_told class) kinds length labels) × (result ≡ 0) }
 {
     let starts = labels.starts;
     let lengths = labels.lengths;
-    [
-        number as u32,
-        place as u32,
+    *answer = [
+        0,
+        0,
         class_number(class),
         kinds_number(kinds),
         length as u32,
@@ -67,26 +67,38 @@ pub(crate) fn told(
         lengths[0] as u32,
         lengths[1] as u32,
         lengths[2] as u32,
-    ]
+    ];
+    0
 }
 
-// Those of an answer that has no class, no kinds and no labels.
-pub(crate) fn plain(number: u8, place: usize, length: usize) -> [u32; 12]
-    requires { (place ≤ 257) × (length ≤ 257) }
-    ensures { result ≡ unnamed number place length }
+// Tells of what is accepted and has no class, no kinds and no labels, but a length.
+pub(crate) fn tell_length(length: usize, answer: &mut [u32; 12]) -> u32
+    requires { length ≤ 257 }
+    ensures { (answer.new ≡ unnamed 0 0 length) × (result ≡ 0) }
 {
-    [
-        number as u32,
-        place as u32,
-        0,
-        0,
-        length as u32,
-        0,
-        0,
-        0,
-        0,
-        0,
-        0,
-        0,
-    ]
+    *answer = [0; 12];
+    answer[4] = length as u32;
+    0
+}
+
+// Tells of a refusal. The length is that of a text which is shown with it.
+pub(crate) fn tell_refusal(refused: Refused, length: usize, answer: &mut [u32; 12]) -> u32
+    requires { (refused.place ≤ 257) × (length ≤ 257) }
+    ensures { (answer.new ≡ unnamed (number_of refused.why) refused.place length) × (result ≡ number_of refused.why) }
+{
+    tell_length(length, answer);
+    answer[0] = u32::from(u8::from(refused.why));
+    answer[1] = refused.place as u32;
+    answer[0]
+}
+
+// Tells of a call that writes octets or code points, and so many of them where it accepts.
+pub(crate) fn tell_written(said: Result<usize, Refused>, answer: &mut [u32; 12]) -> u32
+    requires { ((filled said).place ≤ 257) × ((filled said).length ≤ 257) }
+    ensures { (answer.new ≡ unnamed (filled said).number (filled said).place (filled said).length) × (result ≡ (filled said).number) }
+{
+    match said {
+        Ok(length) => tell_length(length, answer),
+        Err(refused) => tell_refusal(refused, 0, answer),
+    }
 }

@@ -1,38 +1,32 @@
 // The same calls on a name in UTF-8, and the answer line to a line of a batch.
-ghost use Rattle.std.specs.Prelude.{◌≡◌, length};
+ghost use Rattle.std.specs.Prelude.{◌≡◌};
 ghost use Rattle.lists.specs.Front.{Puts};
 ghost use Rattle.rules.specs.Editions.{edition_of, today};
 ghost use Rattle.names.specs.Calls.{Checks, AsciiForms};
 ghost use Rattle.hosts.specs.Hosts.{HostForms};
 ghost use Rattle.answer.specs.Answer.{answer_to};
-ghost use Rattle.sagebasket.specs.Outside.{of_checked, of_ascii_form, of_host_form, Tells, OfUtf8};
+ghost use Rattle.sagebasket.specs.Outside.{unnamed, of_checked, of_ascii_form, of_host_form, Tells, OfUtf8};
 ghost use Rattle.sagebasket.specs.Steps.{Reads};
 
-use crate::numbers::plain;
+use crate::numbers::tell_refusal;
 use crate::telling::{tell_ascii, tell_check, tell_host};
+use refusals::Refusal;
 
-const NOT_UTF8: u8 = 16;
+const NOT_UTF8: Refusal = Refusal::BadLine;
 
-// Whether octets are UTF-8, and how many code points of theirs were read, at most 257: with more than 256 the rules look no further.
-#[derive(Drop)]
-struct Read {
-    ok: bool,
-    count: usize,
-}
-
-fn read_utf8(octets: &[u8], text: &mut [u32]) -> Read
-    requires { length text.old ≡ 257 }
+// How many code points of octets in UTF-8 were read, at most 257: with more than 256 the rules look no further.
+fn read_utf8(octets: &[u8], text: &mut [u32; 257]) -> Option<usize>
     ensures { Reads octets.now text.new result }
 {
-    let decoded = utf8::decode(octets, text);
-    let ok = decoded.ok;
-    if decoded.count < 257 {
-        return Read {
-            ok,
-            count: decoded.count,
-        };
-    }
-    Read { ok, count: 257 }
+    let count = utf8::decode(octets, text)?;
+    Some(count.min(257))
+}
+
+// Tells that octets are not UTF-8.
+fn tell_not_utf8(answer: &mut [u32; 12]) -> u32
+    ensures { (answer.new ≡ unnamed 16 0 0) × (result ≡ 16) }
+{
+    tell_refusal(NOT_UTF8.at(0), 0, answer)
 }
 
 // The check of a name in UTF-8; 16 where the octets are not UTF-8.
@@ -45,15 +39,11 @@ pub extern "C" fn sagebasket_check_utf8(
 ) -> u32
     ensures { OfUtf8 name.now (λ text. Tells of_checked (Checks (edition_of edition) text form.old form.new) answer.new result) form.old form.new answer.new result }
 {
-    let mut text = [0u32; 257];
-    let got = read_utf8(name, &mut text);
-    if !got.ok {
-        *answer = plain(NOT_UTF8, 0, 0);
-        return 16;
+    let mut text = [0; 257];
+    match read_utf8(name, &mut text) {
+        Some(count) => tell_check(edition, &text[..count], form, answer),
+        None => tell_not_utf8(answer),
     }
-    let n = got.count;
-    let lent: &[u32] = &text;
-    tell_check(edition, &lent[0..n], form, answer)
 }
 
 // The whole ASCII form of a name in UTF-8; 16 likewise.
@@ -66,15 +56,11 @@ pub extern "C" fn sagebasket_to_ascii_utf8(
 ) -> u32
     ensures { OfUtf8 name.now (λ text. Tells of_ascii_form (AsciiForms (edition_of edition) text ascii.old ascii.new) answer.new result) ascii.old ascii.new answer.new result }
 {
-    let mut text = [0u32; 257];
-    let got = read_utf8(name, &mut text);
-    if !got.ok {
-        *answer = plain(NOT_UTF8, 0, 0);
-        return 16;
+    let mut text = [0; 257];
+    match read_utf8(name, &mut text) {
+        Some(count) => tell_ascii(edition, &text[..count], ascii, answer),
+        None => tell_not_utf8(answer),
     }
-    let n = got.count;
-    let lent: &[u32] = &text;
-    tell_ascii(edition, &lent[0..n], ascii, answer)
 }
 
 // The ASCII form of a host name in UTF-8; 16 likewise.
@@ -86,15 +72,11 @@ pub extern "C" fn sagebasket_host_to_ascii_utf8(
 ) -> u32
     ensures { OfUtf8 name.now (λ text. Tells of_host_form (HostForms today text ascii.old ascii.new) answer.new result) ascii.old ascii.new answer.new result }
 {
-    let mut text = [0u32; 257];
-    let got = read_utf8(name, &mut text);
-    if !got.ok {
-        *answer = plain(NOT_UTF8, 0, 0);
-        return 16;
+    let mut text = [0; 257];
+    match read_utf8(name, &mut text) {
+        Some(count) => tell_host(&text[..count], ascii, answer),
+        None => tell_not_utf8(answer),
     }
-    let n = got.count;
-    let lent: &[u32] = &text;
-    tell_host(&lent[0..n], ascii, answer)
 }
 
 // The answer line that `desk` writes for a line, with its LF; how many octets it has.
@@ -103,6 +85,5 @@ pub extern "C" fn sagebasket_line(line: &[u8], out: &mut [u8; 256]) -> u32
     ensures { Puts (answer_to today line.now) out.old out.new 0 result }
 {
     let kanji = characters::kanji_bits();
-    let wrote = answer::answer_with(&kanji, line, out);
-    wrote.length as u32
+    answer::answer_with(&kanji, line, out).unwrap_or(0) as u32
 }

@@ -1,5 +1,5 @@
 // The live check over a state that the caller holds: 258 numbers, the text typed, how many code points, and the edition (specs/Outside: held).
-ghost use Rattle.std.specs.Prelude.{◌≡◌, min, length};
+ghost use Rattle.std.specs.Prelude.{◌≡◌, min, take, get_or};
 ghost use Rattle.rules.specs.Editions.{edition_of, today};
 ghost use Rattle.names.specs.Calls.{AsciiForms};
 ghost use Rattle.hosts.specs.Hosts.{HostForms};
@@ -7,22 +7,21 @@ ghost use Rattle.live.specs.Live.{fresh, stepped, looked, hoped};
 ghost use Rattle.live.specs.HostLooks.{host_looked};
 ghost use Rattle.sagebasket.specs.Outside.{flag, held, held_text, of_judged, of_host_judged, of_ascii_form, of_host_form, Tells, Shows};
 
-use crate::numbers::{plain, told, yes};
-use crate::telling::{no_kinds, tell_ascii, tell_host};
+use crate::numbers::{NO_KINDS, tell_length, tell_name, tell_refusal};
+use crate::telling::{tell_ascii, tell_host};
 
 // It has read nothing, and is given its edition, any number.
 #[unsafe(no_mangle)]
 pub extern "C" fn sagebasket_live_fresh(edition: u32, state: &mut [u32; 258])
     ensures { held state.new ≡ fresh edition }
 {
-    let mut made = [0u32; 258];
-    made[257] = edition;
-    *state = made;
+    *state = [0; 258];
+    state[257] = edition;
 }
 
-// A step, on the state as a slice: of that the prover knows the length.
-fn step(state: &mut [u32], c: u32)
-    requires { length state.old ≡ 258 }
+// One code point more.
+#[unsafe(no_mangle)]
+pub extern "C" fn sagebasket_live_step(state: &mut [u32; 258], c: u32)
     ensures { held state.new ≡ stepped (held state.old) c }
 {
     let at = state[256];
@@ -34,19 +33,11 @@ fn step(state: &mut [u32], c: u32)
     }
 }
 
-// One code point more.
-#[unsafe(no_mangle)]
-pub extern "C" fn sagebasket_live_step(state: &mut [u32; 258], c: u32)
-    ensures { held state.new ≡ stepped (held state.old) c }
+// The text typed, as it is lent. Past 256 it is 257 entries, whatever they are: the rules look no further.
+fn typed(state: &[u32; 258]) -> &[u32]
+    ensures { result.now ≡ take (min (get_or state.now 256 0) 257) state.now }
 {
-    step(state, c);
-}
-
-// How many entries are lent as the text typed. Past 256 it is 257, whatever they are: the rules look no further.
-fn lent(count: u32) -> usize
-    ensures { result ≡ min count 257 }
-{
-    if count < 257 { count as usize } else { 257 }
+    &state[..state[256].min(257) as usize]
 }
 
 // A look: what the nightly rules of the edition say of the text typed, and its normal form with zeros past it.
@@ -58,24 +49,13 @@ pub extern "C" fn sagebasket_live_look(
 ) -> u32
     ensures { Shows (of_judged (looked edition_of (held state.now))) (looked edition_of (held state.now)).form form.new answer.new result }
 {
-    let n = lent(state[256]);
-    let edition = state[257];
-    let whole: &[u32] = state;
-    let judged = names::judge(edition, &whole[0..n]);
+    let judged = names::judge(state[257], typed(state));
     let shown = judged.form;
     *form = shown;
-    let number = judged.number;
-    let class = judged.class;
-    let kinds = no_kinds();
-    *answer = told(
-        number,
-        judged.place,
-        class,
-        kinds,
-        judged.length,
-        judged.labels,
-    );
-    number as u32
+    match judged.said {
+        Ok(name) => tell_name(name.class, NO_KINDS, judged.length, name.labels, answer),
+        Err(refused) => tell_refusal(refused, judged.length, answer),
+    }
 }
 
 // A look at it as a nameserver's host name.
@@ -87,14 +67,13 @@ pub extern "C" fn sagebasket_live_look_host(
 ) -> u32
     ensures { Shows (of_host_judged (host_looked today (held state.now))) (host_looked today (held state.now)).form form.new answer.new result }
 {
-    let n = lent(state[256]);
-    let whole: &[u32] = state;
-    let judged = hosts::judge(&whole[0..n]);
+    let judged = hosts::judge(typed(state));
     let shown = judged.form;
     *form = shown;
-    let number = judged.number;
-    *answer = plain(number, judged.place, judged.length);
-    number as u32
+    match judged.said {
+        Ok(()) => tell_length(judged.length, answer),
+        Err(refused) => tell_refusal(refused, judged.length, answer),
+    }
 }
 
 // May the text typed yet become a name of the edition? 1 for yes, 0 for no.
@@ -102,10 +81,7 @@ pub extern "C" fn sagebasket_live_look_host(
 pub extern "C" fn sagebasket_live_may_become(state: &[u32; 258]) -> u32
     ensures { result ≡ flag (hoped edition_of (held state.now)) }
 {
-    let n = lent(state[256]);
-    let edition = state[257];
-    let whole: &[u32] = state;
-    yes(hopes::may_become(edition, &whole[0..n]))
+    u32::from(hopes::may_become(state[257], typed(state)))
 }
 
 // The whole ASCII form of the text typed.
@@ -117,10 +93,7 @@ pub extern "C" fn sagebasket_live_to_ascii(
 ) -> u32
     ensures { Tells of_ascii_form (AsciiForms (edition_of (held state.now).edition) (held_text (held state.now)) ascii.old ascii.new) answer.new result }
 {
-    let n = lent(state[256]);
-    let edition = state[257];
-    let whole: &[u32] = state;
-    tell_ascii(edition, &whole[0..n], ascii, answer)
+    tell_ascii(state[257], typed(state), ascii, answer)
 }
 
 // The ASCII form of the text typed as a host.
@@ -132,7 +105,5 @@ pub extern "C" fn sagebasket_live_host_to_ascii(
 ) -> u32
     ensures { Tells of_host_form (HostForms today (held_text (held state.now)) ascii.old ascii.new) answer.new result }
 {
-    let n = lent(state[256]);
-    let whole: &[u32] = state;
-    tell_host(&whole[0..n], ascii, answer)
+    tell_host(typed(state), ascii, answer)
 }

@@ -15,10 +15,10 @@ use Rattle.lists.proofs.Laws.{in_range}
 use Rattle.characters.specs.KanjiBits.{kanji_bits}
 use Rattle.rules.specs.Permits.{Permits}
 use Rattle.rules.specs.Editions.{today}
-use Rattle.rules.specs.declared.Verdict.{Verdict}
+use Rattle.rules.specs.Verdicts.{Verdict}
 use Rattle.rules.proofs.Editions.{today_laws, lending}
 use Rattle.names.specs.Calls.{check_said, Checks}
-use Rattle.names.specs.declared.Checked.{Checked}
+use Rattle.names.specs.Calls.{Checked}
 use Rattle.names.proofs.Demands.{check_says}
 use Rattle.searches.specs.Searches.{read_by, searched_by, searched}
 use Rattle.searches.specs.Examples.{AsAsked, as_asked}

@@ -20,7 +20,7 @@ use Rattle.normal.specs.Normal.{normal_form}
 use Rattle.rules.specs.Permits.{Permits}
 use Rattle.rules.specs.Rules.{unfit, label_rows, name_rows, front_rows, text_rows, verdict, rules, refused}
 use Rattle.rules.specs.Editions.{today}
-use Rattle.rules.specs.declared.Verdict.{Verdict}
+use Rattle.rules.specs.Verdicts.{Verdict}
 use Rattle.rules.proofs.Editions.{today_laws, lending}
 use Rattle.searches.specs.Searches.{searched}
 use Rattle.searches.specs.Steps.{stops_at, stop_from}

@@ -1,3 +1,5 @@
+pub mod Ranges
+pub mod Stops
 pub mod Walking
 pub mod Tableless
 pub mod Searching

@@ -8,24 +8,28 @@ use mathlib.Core.Logic.{◌⊎◌, inl, inr, ⊎_elim}
 use Prim.Native.Nat.{ℕ, ◌+◌, ◌-◌, ◌≤◌, ◌<◌}
 use native.Mathlib.Omega.{arith}
 use lib.Dec.{eqb}
-use lib.ListN.{length, take, drop}
-use borrow.Author.Tests.{not-true}
+use lib.ListN.{length, take}
+use borrow.Author.Tests.{not-true, ne_eqb}
 use Rattle.lists.specs.Tests.{within, all_of, any_of, index_of}
-use Rattle.lists.specs.declared.Answer.{Answer}
+use Rattle.lists.specs.Rows.{Answer}
 use Rattle.lists.proofs.Laws as Laws
 use Rattle.lists.proofs.Laws.{by_test, lt_or_le, neither, clash, in_range}
 use Rattle.lists.proofs.Scan.{found_inside}
 use Rattle.lists.proofs.Tables.{of_rows}
 use Rattle.normal.specs.Normal.{normal_form}
 use Rattle.normal.specs.Calls.{Normalises}
-use Rattle.normal.specs.declared.Normal.{Normal}
+use Rattle.std.specs.Prelude.{Result, Ok, Err, is_ok}
+use Rattle.refusals.specs.Refusals.{Filled, number_of}
+use Rattle.refusals.specs.declared.Refused.{Refused}
+use Rattle.refusals.proofs.Once.{number_not_0}
 use Rattle.normal.proofs.Answers.{no_refusal}
 use Rattle.normal.proofs.Origins.{began_before}
 use Rattle.rules.specs.Labels.{labels}
 use Rattle.rules.specs.Permits.{Permits}
 use Rattle.rules.specs.Rules.{unfit, label_rows, name_rows, verdict, by_labels, rules, refused}
 use Rattle.rules.specs.Editions.{edition_with, today_with}
-use Rattle.rules.specs.declared.Verdict.{Verdict}
+use Rattle.rules.specs.Verdicts.{Verdict, verdict_told}
+use Rattle.rules.specs.declared.Class.{Class}
 use Rattle.rules.proofs.Steps.{front_2, front_3, front_4, front_0, text_front, text_on}
 use Rattle.fronts.proofs.Fronting.{form_is}
 use Rattle.searches.specs.Searches.{read_by, searched_by, searched}
@@ -50,17 +54,26 @@ read_all_by v n e =
     rw (k.0, k.1)
 
 -- a text of 1 to 256 code points has its normal form written, and its labels are asked
-module _ {text before after : List ℕ} {n : Normal} (N : Normalises text before after n) (room : 256 ≤ length before)
+module _ {text before after : List ℕ} {n : Filled} (N : Normalises text before after n) (room : 256 ≤ length before)
     (few : (1 ≤ length text) × (length text ≤ 256)) where
-  form_there : take (n.length - 0) (drop 0 after) ≡ normal_form text
-  form_there =
-      form_is N
-      (ap (λ (x : Normal). x.number) N.result
-      ∙ ap (λ (a : Answer). a.number) (no_refusal text before room (λ z. omega (arith, few.0)) few.1))
+  pub number_is_0 : n.number ≡ 0
+  number_is_0 =
+      ap (λ (x : Filled). x.number) N.result
+      ∙ ap (λ (a : Answer). a.number) (no_refusal text before room (λ z. omega (arith, few.0)) few.1)
 
-  pub labels_said : (P : Permits) {v : Verdict} → v ≡ by_labels P (labels (take (n.length - 0) (drop 0 after)))
+  form_there : take n.length after ≡ normal_form text
+  form_there =
+      let e : n.length ≡ n.length - 0 = omega arith in
+      ap (λ (k : ℕ). take k after) e ∙ form_is N number_is_0
+
+  pub labels_said : (P : Permits) {v : Verdict} → v ≡ by_labels P (labels (take n.length after))
       → eqb v.number 0 ≡ eqb (by_labels P (labels (normal_form text))).number 0
   labels_said P q = ap (λ (v : Verdict). eqb v.number 0) (q ∙ ap (λ (l : List ℕ). by_labels P (labels l)) form_there)
+
+-- what is told of a result says whether it accepts
+pub accepted_is : (r : Result Class Refused) → is_ok r ≡ eqb (verdict_told r).number 0
+accepted_is (Ok k) = refl
+accepted_is (Err e) = sym (ne_eqb (number_of e.why) 0 (number_not_0 e.why))
 
 -- as the code asks the length
 pub by_length : (n : ℕ) → within 1 256 n ≡ false → (n ≡ 0) ⊎ (256 < n)

@@ -5,16 +5,14 @@
 use mathlib.Core.Path.{◌≡◌, refl, sym, ap, ◌∙◌}
 use mathlib.Core.Bool.{Bool, true, false, not, ◌||◌}
 use mathlib.Core.List.{List, [], ◌∷◌}
-use mathlib.Core.Logic.{⊎_elim}
 use Prim.Native.Nat.{ℕ, suc, ◌+◌, ◌-◌, ◌≤◌, ◌<◌}
 use native.Mathlib.Omega.{arith}
-use lib.Dec.{eqb, leb, ltb}
+use lib.Dec.{eqb}
 use lib.ListN.{length, drop, get_or}
-use borrow.Author.Tests.{le-leb, lt-leb, lt-ltb, le-ltb, ltb-true, not-true}
 use Rattle.lists.specs.Tests.{pick, within, elem}
-use Rattle.lists.proofs.Laws.{both, by_test, outside, lt_or_le}
+use Rattle.lists.proofs.Laws.{by_test}
 use Rattle.characters.specs.Characters.{ascii_set, kinds, signs_in, stretch, kind_among, kind_by, any_kind, kanji_with, kind_with}
-use Rattle.characters.specs.declared.Kind.TheVariants.{Hiragana, Katakana, Kanji, Sign, None}
+use Rattle.characters.specs.Kinds.{Hiragana, Katakana, Kanji, Sign, None}
 use Rattle.characters.specs.Replace.{replace}
 use Rattle.characters.specs.Compose.{composed}
 use Rattle.characters.proofs.Bits.{short}
@@ -22,11 +20,10 @@ use Rattle.rules.specs.Labels.{period}
 use Rattle.rules.specs.Permits.{Permits, ja_char, label_char}
 use Rattle.rules.specs.Rules.{unfit}
 use Rattle.rules.specs.Editions.{edition_with, today_with}
-use Rattle.searches.specs.Steps.{stops_at, stop_from, no_kanji_at}
-use Rattle.searches.proofs.Walking.{lent_joins, zero_no_base, walk_stops, forward, stops_is}
-
-lt_not_le : (a b : ℕ) → ltb a b ≡ not (leb b a)
-lt_not_le a b = ⊎_elim (λ h. rw (lt-ltb a b h, lt-leb b a h)) (λ h. rw (le-ltb a b h, le-leb b a h)) (lt_or_le a b)
+use Rattle.std.proofs.Common.{Option, Some, None}
+use Rattle.searches.specs.Steps.{inside, stops_at, stop_from}
+use Rattle.searches.proofs.Stops.{at_end, stopped_at, came_to_end}
+use Rattle.searches.proofs.Walking.{lent_joins, zero_no_base, walk_stops, walk_ends, forward, stops_is}
 
 -- ---- one code point
 
@@ -65,25 +62,6 @@ module _ (table : List ℕ) (c : ℕ) where
     where
       none : kanji_with table c ≡ false
       none = rw o
-
--- what the code finds at an index, where c replaces the code point there
-module _ (text : List ℕ) (at : ℕ) where
-  pub inside_at : no_kanji_at text at ≡ true → at < length text
-  unfolding no_kanji_at
-  inside_at h = ltb-true at (length text) (both (ltb at (length text)) _ h).0
-
-  pub past_end : length text ≤ at → false ≡ no_kanji_at text at
-  unfolding no_kanji_at
-  past_end h = rw (le-ltb at (length text) h)
-
-  module _ (h : at < length text) {c : ℕ} (e : c ≡ replace (get_or text at 0)) where
-    pub below : c < 0x4E00 → true ≡ no_kanji_at text at
-    unfolding no_kanji_at
-    below l = rw (lt-ltb at (length text) h, ← e, outside 0x4E00 0x9FA0 c (λ p q. omega arith))
-
-    pub above : 0x4E00 ≤ c → ltb 0x9FA0 c ≡ no_kanji_at text at
-    unfolding no_kanji_at within
-    above l = rw (lt-ltb at (length text) h, ← e, le-leb 0x4E00 c l) (lt_not_le 0x9FA0 c)
 
 -- ---- the walk
 
@@ -140,12 +118,25 @@ module _ (table : List ℕ) where
         let z : at - 0 ≡ at = omega arith in
         sym (stops_is some (lent_joins table) text ∙ resume 0 0 text ∙ rw (← e, z))
 
-    pub anyway : no_kanji_at text at ≡ true → at ≡ stops_at some text
-    unfolding no_kanji_at
-    anyway h =
-        let k = both (ltb at (length text)) _ h in
-        let inside = inside_at text at h in
+    -- it stops at what could be no kanji
+    pub anyway : at < length text → within 0x4E00 0x9FA0 (replace (get_or text at 0)) ≡ false → at ≡ stops_at some text
+    anyway h o =
         let z : at - 0 ≡ at = omega arith in
         let u : unfit none (replace (get_or text at 0)) ≡ true = rw (← e, z) at (at_stop none 0 0 text (omega (arith, e))) in
-        let o = not-true (within 0x4E00 0x9FA0 (replace (get_or text at 0))) k.1 in
-        sym (sym again ∙ walk_stops some text 0 at inside refl refl refl (unfit_still table _ o u) (zero_no_base _))
+        sym (sym again ∙ walk_stops some text 0 at at h refl refl refl (unfit_still table _ o u) (zero_no_base _))
+
+    -- it comes to the end
+    pub to_end : length text ≤ at → at ≡ stops_at some text
+    to_end h = sym (sym again ∙ walk_ends some text 0 at at h)
+
+  -- the walk goes on from where the one without a table stopped, if it did
+  module _ (text : List ℕ) where
+    abbrev there : ℕ → Option ℕ → Type 0
+    there stop r = r ≡ inside (length text) stop
+
+    pub goes_on : {at : ℕ} {r : Option ℕ} → there (stop_from none 0 0 text) (Some at) → there (stop_from some 0 at (drop at text)) r
+        → there (stops_at some text) r
+    goes_on e on = on ∙ ap (inside (length text)) (again text (stopped_at _ _ e).0)
+
+    pub comes_to_end : there (stop_from none 0 0 text) None → there (stops_at some text) None
+    comes_to_end e = at_end _ _ (omega (arith, to_end text refl (came_to_end _ _ e), came_to_end _ _ e))

@@ -12,11 +12,13 @@ use lib.Dec.{eqb}
 use lib.ListN.{length, drop, get_or, drop_of_length-le}
 use lib.Seq.{drop-cons}
 use borrow.Author.Tests.{eqb-true, eqb-false, ne_eqb, eq-eqb, not-true}
+use Rattle.std.specs.Prelude.{Option, Some, None, is_some, MatchOption}
 use Rattle.lists.specs.Tests.{pick, within, all_of, any_of, index_of, elem}
 use Rattle.lists.proofs.Laws.{by_test, clash, differs}
 use Rattle.characters.specs.Characters.{alnum, hyphen, ascii_set, kinds, signs, signs_in, stretch, kind_among, kind_by, any_kind, kanji_with, kind_with}
 use Rattle.characters.specs.Replace.{replace}
-use Rattle.characters.specs.Compose.{voiced, repeats, half_voiced, composed}
+use Rattle.characters.specs.Compose.{voiced, repeats, half_voiced, composed, one_of}
+use Rattle.characters.proofs.OneKind.{sign_is}
 use Rattle.characters.proofs.Pairs as Pairs
 use Rattle.normal.specs.Normal.{Placed, placed, replaced_from, compose, normal_placed, normal_form, places}
 use Rattle.normal.proofs.Pending.{codes, begun, baseless}
@@ -32,7 +34,16 @@ pub record Joins (P : Permits) : Type 0 where
   pub ones : (b m : ℕ) → (composed b m ≡ 0 → ⊥) → unfit P (composed b m) ≡ false
   pub marks : (b m : ℕ) → unfit P m ≡ false → composed b m ≡ 0
 
--- by computed tests of the tables, whatever table of kanji is lent
+-- the two marks are unfit, whatever table of kanji is lent, in every edition
+pub lent_marks : (table : List ℕ) (edition b m : ℕ) → unfit (edition_with table edition) m ≡ false → composed b m ≡ 0
+unfolding edition_with ja_char label_char unfit period ascii_set alnum hyphen all_of any_of elem within kinds signs stretch kind_among kind_by any_kind kanji_with kind_with
+lent_marks table edition b m e =
+    let P = edition_with table edition in
+    let voiced : unfit P 0x309B ≡ true = rw (sign_is edition 0x309B) in
+    let half_voiced_one : unfit P 0x309C ≡ true = rw (sign_is edition 0x309C) in
+    Pairs.unmarked b m (differs (λ c. not (unfit P c)) 0x309B (ap not voiced) m (ap not e)) (differs (λ c. not (unfit P c)) 0x309C (ap not half_voiced_one) m (ap not e))
+
+-- by computed tests of the tables
 module _ (table : List ℕ) where
   abbrev fit : ℕ → Bool
   fit c = not (unfit (today_with table) c)
@@ -42,35 +53,53 @@ module _ (table : List ℕ) where
   lent_joins = record {
     bases = λ b m n. not-true (unfit (today_with table) b) (Pairs.of_base fit b m refl refl refl refl n);
     ones = λ b m n. not-true (unfit (today_with table) (composed b m)) (Pairs.of_one fit b m refl refl refl refl n);
-    marks = λ b m e. Pairs.unmarked b m (differs fit 0x309B refl m (ap not e)) (differs fit 0x309C refl m (ap not e));
+    marks = lent_marks table 4;
   }
 
 -- 0 stands before the first
 pub zero_no_base : (x : ℕ) → composed 0 x ≡ 0
 zero_no_base x = Pairs.low_no_base 0 (omega arith) x
 
-module _ (P : Permits) where
-  -- ---- a turn of the loop: x is what replaces the code point at i
+-- the code holds what stands before, if anything does
+unfoldable pub base : Option ℕ → ℕ
+base None = 0
+base (Some c) = c
 
-  module _ (t : List ℕ) (last i : ℕ) where
+one_is : (c : ℕ) → (base (one_of c) ≡ c) × (is_some (one_of c) ≡ not (eqb c 0))
+unfolding base one_of
+one_is c =
+    by_test (λ b. eqb c 0 ≡ b → (base (pick b None (Some c)) ≡ c) × (is_some (pick b None (Some c)) ≡ not b)) (eqb c 0)
+    (λ p q. (sym (eqb-true c 0 p), refl)) (λ p q. (refl, refl)) refl
+
+-- so a mark joins that, or nothing
+pub joins_last : (last one : Option ℕ) (x : ℕ) → MatchOption last (one ≡ None) (λ b. one ≡ one_of (composed b x))
+    → (base one ≡ composed (base last) x) × (is_some one ≡ not (eqb (base one) 0))
+unfolding base one_of
+joins_last None one x e = rw e (sym (zero_no_base x), refl)
+joins_last (Some b) one x e = let o = one_is (composed b x) in rw e (o.0, rw o.0 o.1)
+
+module _ (P : Permits) where
+  -- ---- a turn of the loop, which is at k, the i-th of t: x is what replaces the code point there
+
+  module _ (t : List ℕ) (last k i : ℕ) where
     module _ {x : ℕ} (h : i < length t) (ex : x ≡ replace (get_or t i 0)) {b : Bool} (e : b ≡ unfit P x) where
-      peel : {one : ℕ} → one ≡ composed last x → stop_from P last i (drop i t)
-          ≡ pick (eqb one 0) (pick b i (stop_from P x (i + 1) (drop (i + 1) t))) (stop_from P one (i + 1) (drop (i + 1) t))
+      peel : {one : ℕ} → one ≡ composed last x → stop_from P last k (drop i t)
+          ≡ pick (eqb one 0) (pick b k (stop_from P x (suc k) (drop (i + 1) t))) (stop_from P one (suc k) (drop (i + 1) t))
       unfolding stop_from
       peel eo = rw (eo, e, ex, add-one, drop-cons t i 0 h)
 
       -- what is fit is no mark
-      pub walk_on : Joins P → b ≡ false → stop_from P last i (drop i t) ≡ stop_from P x (i + 1) (drop (i + 1) t)
-      walk_on J u = peel refl ∙ rw (eq-eqb (composed last x) 0 (J.marks last x (sym e ∙ u)), u)
+      pub walk_on : ((a m : ℕ) → unfit P m ≡ false → composed a m ≡ 0) → b ≡ false → {m : ℕ} → suc k ≡ m → stop_from P last k (drop i t) ≡ stop_from P x m (drop (i + 1) t)
+      walk_on unmarked u s = peel refl ∙ rw (eq-eqb (composed last x) 0 (unmarked last x (sym e ∙ u)), u, ← s)
 
       module _ {one : ℕ} (eo : one ≡ composed last x) where
-        pub walk_joins : (one ≡ 0 → ⊥) → stop_from P last i (drop i t) ≡ stop_from P one (i + 1) (drop (i + 1) t)
-        walk_joins n = peel eo ∙ rw (ne_eqb one 0 n)
+        pub walk_joins : (one ≡ 0 → ⊥) → {m : ℕ} → suc k ≡ m → stop_from P last k (drop i t) ≡ stop_from P one m (drop (i + 1) t)
+        walk_joins n s = peel eo ∙ rw (ne_eqb one 0 n, ← s)
 
-        pub walk_stops : b ≡ true → one ≡ 0 → stop_from P last i (drop i t) ≡ i
+        pub walk_stops : b ≡ true → one ≡ 0 → stop_from P last k (drop i t) ≡ k
         walk_stops u z = peel eo ∙ rw (eq-eqb one 0 z, u)
 
-    pub walk_ends : length t ≤ i → stop_from P last i (drop i t) ≡ i
+    pub walk_ends : length t ≤ i → stop_from P last k (drop i t) ≡ k
     unfolding stop_from
     walk_ends h = rw (drop_of_length-le t h)
 

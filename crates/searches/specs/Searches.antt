@@ -4,7 +4,7 @@ use Rattle.std.specs.Prelude.{◌||◌, List, ℕ, ◌+◌, eqb, length}
 use Rattle.lists.specs.Tests.{pick}
 use Rattle.rules.specs.Permits.{Permits}
 use Rattle.rules.specs.Rules.{rules}
-use Rattle.rules.specs.declared.Verdict.{Verdict}
+use Rattle.rules.specs.Verdicts.{Verdict}
 use Rattle.searches.specs.declared.Searched.{Searched}
 
 -- how many are read of a text of n code points: 0 where the length alone refuses, with 4 its place and one more, else

@@ -1,5 +1,5 @@
 -- What the functions below the calls answer.
-use Rattle.std.specs.Prelude.{Bool, true, not, ◌&&◌, List, [], ◌∷◌, ◌≡◌, ℕ, suc, eqb, ltb, length, get_or}
+use Rattle.std.specs.Prelude.{true, Option, Some, None, List, [], ◌∷◌, ◌≡◌, ℕ, suc, eqb, ltb, length, get_or}
 use Rattle.lists.specs.Tests.{pick, within, any_of, index_of}
 use Rattle.characters.specs.Replace.{replace}
 use Rattle.characters.specs.Compose.{composed}
@@ -21,11 +21,12 @@ stop_from P last i (c ∷ cs) =
     let one = composed last x in
     pick (eqb one 0) (pick (unfit P x) i (stop_from P x (suc i) cs)) (stop_from P one (suc i) cs)
 
--- the code point at this index becomes none that could be a kanji
-unfoldable pub no_kanji_at : List ℕ → ℕ → Bool
-no_kanji_at text at = ltb at (length text) && not (within 0x4E00 0x9FA0 (replace (get_or text at 0)))
+-- the index of a stop in a text of n code points, or none where it is past them
+abbrev pub inside : ℕ → ℕ → Option ℕ
+inside n stop = pick (ltb stop n) (Some stop) None
 
--- a text that is not refused for its length alone, and where its reading stops
-pub record Stops (P : Permits) (text : List ℕ) (stop : ℕ) : Type 0 where
+-- a text that is not refused for its length alone by an edition that there is, and where its reading stops
+pub record Stops (P : Permits) (text : List ℕ) (stop : Option ℕ) : Type 0 where
+  pub there_is : P.known ≡ true
   pub read : within 1 256 (length text) ≡ true
-  pub place : stop ≡ stops_at P text
+  pub place : stop ≡ inside (length text) (stops_at P text)

@@ -3,68 +3,49 @@
 // of scalar values is the theorem of proofs/Encoding.
 #![tactic(auto)]
 
-ghost use Rattle.std.specs.Prelude.{◌≡◌, ◌+◌, ◌^◌, ◌<◌, set};
+ghost use Rattle.std.specs.Prelude.{◌≡◌, ◌+◌, ◌^◌, ◌<◌, set, None, Some};
 ghost use Rattle.lists.specs.Tests.{within};
 ghost use Rattle.utf8.specs.Utf8.{proper, decoded};
-ghost use Rattle.utf8.specs.Decodes.{decoded_as, Decodes, DecodesUpToFault, Leads};
+ghost use Rattle.utf8.specs.Decodes.{Decodes, DecodesUpToFault, decoded_told, Bound, Waits, Steps};
 
-// Whether all bytes are well-formed, and how many code points were counted.
+// A value of which bytes are yet to follow: how many, the least value that needs as many as it has, and its bits so far.
 #[derive(Clone, Copy)]
-pub struct Decoded {
-    pub ok: bool,
-    pub count: usize,
-}
-
-// What a first byte of 80 or more says: how many follow (0: it is none), the least value that needs as many, its own bits.
-#[derive(Drop)]
-struct Lead {
+struct Begun {
     need: usize,
     least: u32,
     bits: u32,
 }
 
-fn as_number(b: u8) -> u32
-    ensures { (result ≡ b) × (result < 256) }
-{
-    b as u32
+// What a byte comes to: it ends a code point, or more bytes are to follow.
+#[derive(Clone, Copy)]
+enum Step {
+    Code(u32),
+    More(Begun),
 }
 
-fn first_byte(b: u32) -> Lead
-    requires { b < 256 }
-    ensures { Leads b result }
+// A code point's first byte.
+fn first_byte(b: u8) -> Option<Step>
+    ensures { Steps b None result }
 {
-    if b < 0xC0 {
-        return Lead {
-            need: 0,
-            least: 0x80,
-            bits: 0,
-        };
-    }
-    if b < 0xE0 {
-        return Lead {
+    let v = u32::from(b);
+    match b {
+        0x00..=0x7F => Some(Step::Code(v)),
+        0xC0..=0xDF => Some(Step::More(Begun {
             need: 1,
             least: 0x80,
-            bits: b - 0xC0,
-        };
-    }
-    if b < 0xF0 {
-        return Lead {
+            bits: v - 0xC0,
+        })),
+        0xE0..=0xEF => Some(Step::More(Begun {
             need: 2,
             least: 0x800,
-            bits: b - 0xE0,
-        };
-    }
-    if b < 0xF8 {
-        return Lead {
+            bits: v - 0xE0,
+        })),
+        0xF0..=0xF7 => Some(Step::More(Begun {
             need: 3,
             least: 0x10000,
-            bits: b - 0xF0,
-        };
-    }
-    Lead {
-        need: 0,
-        least: 0x10000,
-        bits: b - 0xF0,
+            bits: v - 0xF0,
+        })),
+        _ => None,
     }
 }
 
@@ -72,23 +53,44 @@ fn first_byte(b: u32) -> Lead
 fn is_proper(least: u32, v: u32) -> bool
     ensures { result ≡ proper least v }
 {
-    if v < least {
-        return false;
-    }
-    if v < 0xD800 {
-        return true;
-    }
-    if v < 0xE000 {
-        return false;
-    }
-    v <= 0x10FFFF
+    least <= v && matches!(v, 0..=0xD7FF | 0xE000..=0x10FFFF)
 }
 
-// A byte that goes on a value: 80 to BF.
-fn is_tail(b: u32) -> bool
+// Whether a byte goes on a value.
+#[tactic(auto, using(lists::proofs::Laws::inside, lists::proofs::Laws::outside))]
+fn is_tail(b: u8) -> bool
     ensures { result ≡ within 0x80 0xBF b }
 {
-    0x80 <= b && b <= 0xBF
+    matches!(b, 0x80..=0xBF)
+}
+
+// A byte past the first: another of a value's, or its last, which makes it a code point if it is a proper one.
+fn next_byte(value: Begun, b: u8) -> Option<Step>
+    requires { Bound value.need value.bits }
+    ensures { Steps b (Some value) result }
+{
+    if !is_tail(b) {
+        return None;
+    }
+    let bits = value.bits * 64 + u32::from(b - 0x80);
+    if 1 < value.need {
+        return Some(Step::More(Begun {
+            need: value.need - 1,
+            bits,
+            ..value
+        }));
+    }
+    is_proper(value.least, bits).then_some(Step::Code(bits))
+}
+
+fn take_byte(begun: Option<Begun>, b: u8) -> Option<Step>
+    requires { Waits begun }
+    ensures { Steps b begun result }
+{
+    match begun {
+        None => first_byte(b),
+        Some(value) => next_byte(value, b),
+    }
 }
 
 // Writes c at n, where that is in the buffer; the next place.
@@ -98,74 +100,41 @@ fn put_code(out: &mut [u32], n: usize, c: u32) -> usize
 {
     if n < out.len() {
         out[n] = c;
-        return n + 1;
     }
     n + 1
 }
 
-// The answer, in one place.
-fn told(ok: bool, count: usize) -> Decoded
-    ensures { result ≡ decoded_as ok count }
+// How many code points well-formed bytes are, in one pass. It writes as it goes: those before the first fault, as many as fit, to the start of out.
+fn decode_up_to_fault(bytes: &[u8], out: &mut [u32]) -> Option<usize>
+    ensures { DecodesUpToFault bytes.now out.old out.new (decoded_told result) }
 {
-    Decoded { ok, count }
-}
-
-// The code points before the first fault, in one pass: as many as fit go to the start of out, all are counted.
-fn decode_up_to_fault(bytes: &[u8], out: &mut [u32]) -> Decoded
-    ensures { DecodesUpToFault bytes.now out.old out.new result }
-{
-    let mut need = 0;
-    let mut least = 0;
-    let mut acc = 0;
-    let mut n = 0;
-    let mut i = 0;
-    while i < bytes.len() {
-        let b = as_number(bytes[i]);
-        i += 1;
-        if need == 0 {
-            if b < 0x80 {
-                n = put_code(out, n, b);
-            } else {
-                let l = first_byte(b);
-                if l.need == 0 {
-                    return told(false, n);
-                }
-                need = l.need;
-                least = l.least;
-                acc = l.bits;
-            }
-        } else {
-            if !is_tail(b) {
-                return told(false, n);
-            }
-            acc = acc * 64 + (b - 0x80);
-            need -= 1;
-            if need == 0 {
-                if !is_proper(least, acc) {
-                    return told(false, n);
-                }
-                n = put_code(out, n, acc);
+    let mut begun: Option<Begun> = None;
+    let mut count = 0;
+    for &b in bytes {
+        match take_byte(begun, b)? {
+            Step::More(value) => begun = Some(value),
+            Step::Code(c) => {
+                begun = None;
+                count = put_code(out, count, c);
             }
         }
     }
-    told(need == 0, n)
+    begun.is_none().then_some(count)
 }
 
 // Whether there is no fault. The pass writes to an entry of its own, which goes nowhere.
 fn is_well_formed(bytes: &[u8]) -> bool
     ensures { result ≡ (decoded bytes.now).ok }
 {
-    let mut scratch = [0u32; 1];
-    let seen = decode_up_to_fault(bytes, &mut scratch);
-    seen.ok
+    decode_up_to_fault(bytes, &mut [0u32; 1]).is_some()
 }
 
-// The code points of well-formed bytes: as many as fit go to the start of out, all are counted. Of other bytes none are, and nothing is written.
-pub fn decode(bytes: &[u8], out: &mut [u32]) -> Decoded
-    ensures { Decodes bytes.now out.old out.new result }
+// How many code points well-formed bytes are: as many as fit go to the start of out. Of other bytes nothing is counted, and nothing written.
+pub fn decode(bytes: &[u8], out: &mut [u32]) -> Option<usize>
+    ensures { Decodes bytes.now out.old out.new (decoded_told result) }
 {
     if !is_well_formed(bytes) {
-        return told(false, 0);
+        return None;
     }
     decode_up_to_fault(bytes, out)
 }

@@ -1,7 +1,7 @@
 -- Which wish won, by the numbers of the two checks, and so which slice the part is of: each case of the choice is one equation.
 -- Assumes nothing.
 use mathlib.Core.Path.{◌≡◌, refl, sym, ap, ◌∙◌}
-use mathlib.Core.Bool.{Bool, true, false}
+use mathlib.Core.Bool.{Bool, true, false, true≢false}
 use mathlib.Core.List.{List}
 use Prim.Native.Nat.{ℕ, ◌≤◌}
 use lib.ListN.{length}
@@ -9,14 +9,18 @@ use lib.Dec.{eqb}
 use borrow.Author.Tests.{eq-eqb, ne_eqb, eqb-true, eqb-false}
 use denote.Ref.{Bor}
 use Rattle.lists.specs.Tests.{pick}
-use Rattle.lists.specs.declared.Answer.{Answer}
+use Rattle.lists.specs.Rows.{Answer}
+use Rattle.std.specs.Prelude.{Result, Ok, Err, is_ok}
+use Rattle.refusals.specs.Refusals as refusals
+use Rattle.refusals.specs.declared.Refused.{Refused}
+use Rattle.refusals.proofs.Once.{number_not_0}
 use Rattle.rules.specs.Permits.{Permits}
-use Rattle.rules.specs.declared.Verdict.{Verdict}
+use Rattle.rules.specs.Verdicts.{Verdict}
 use Rattle.names.specs.Calls.{Checks}
-use Rattle.names.specs.declared.Checked.{Checked}
+use Rattle.names.specs.Calls.{Checked}
 use Rattle.names.proofs.Demands.{check_says}
 use Rattle.wishes.specs.Wishes.{alone, won_by, winner, wished, part_length, winners, handed_length, Begins, Hands}
-use Rattle.wishes.specs.declared.Wished.{Wished}
+use Rattle.wishes.specs.Wishes.{Wished}
 
 -- number and place of a check
 abbrev pub told : Checked → Answer
@@ -28,7 +32,15 @@ pub checked_says : (P : Permits) {text before after : List ℕ} {c : Checked} �
 unfolding alone
 checked_says P C room = ap (λ (v : Verdict). record { number = v.number; place = v.place }) (check_says P C room)
 
--- ---- by the numbers
+-- ---- by the numbers, of which 0 tells that a check accepts
+
+pub ok_number : (r : Result (Unit {0}) Refused) → is_ok r ≡ true → (refusals.told r).number ≡ 0
+ok_number (Ok x) e = refl
+ok_number (Err x) e = absurd (true≢false (sym e))
+
+pub err_number : (r : Result (Unit {0}) Refused) → is_ok r ≡ false → (refusals.told r).number ≡ 0 → ⊥
+err_number (Ok x) e = absurd (true≢false e)
+err_number (Err x) e = number_not_0 x.why
 
 module _ (a b : ℕ) where
   pub first_won : a ≡ 0 → 1 ≡ won_by a b

@@ -1,18 +1,22 @@
 -- Which wish won, beside the contracts of the two checks: each text is judged as if it stood alone, so the answer is made of the two
 -- answers of the check, given room. Of any edition; the calls ask the one in force.
 -- Assumes nothing.
-use mathlib.Core.Path.{◌≡◌, sym, ap, ◌∙◌}
+use mathlib.Core.Path.{◌≡◌, refl, sym, ap, ◌∙◌}
 use mathlib.Core.List.{List}
 use mathlib.Core.Logic.{◌↔◌}
 use Prim.Native.Nat.{ℕ, ◌≤◌}
 use native.Mathlib.Omega.{arith}
 use lib.ListN.{length}
-use Rattle.lists.specs.declared.Answer.{Answer}
+use Rattle.std.specs.Prelude.{Option, Some, None}
+use Rattle.lists.specs.Rows.{Answer}
+use Rattle.refusals.proofs.Once.{told_once}
 use Rattle.rules.specs.Permits.{Permits}
 use Rattle.names.specs.Calls.{Checks}
-use Rattle.names.specs.declared.Checked.{Checked}
-use Rattle.wishes.specs.Wishes.{alone, won_by, winner, wished}
-use Rattle.wishes.specs.declared.Wished.{Wished}
+use Rattle.names.specs.Calls.{Checked}
+use Rattle.wishes.specs.Wishes.{Wished, won_told, wishes_told, alone, won_by, winner, wished}
+use Rattle.wishes.specs.declared.Wish.{Wish}
+use Rattle.wishes.specs.declared.Wish.TheVariants.{First, Second}
+use Rattle.wishes.specs.declared.Wishes.{Wishes}
 use Rattle.wishes.proofs.Choosing.{told, checked_says, first_won, second_won, neither_won, WonBy, by_first, by_second, by_neither, won_by_lem}
 
 -- ---- by the numbers of the checks
@@ -68,3 +72,23 @@ module _ (P : Permits) {text other before after lent left : List ℕ} {c d : Che
 
   pub won_neither : (r.won ≡ 0) ↔ ((c.number ≡ 0 → ⊥) × (d.number ≡ 0 → ⊥))
   won_neither = rw won_is (neither_exactly c.number d.number)
+
+-- ---- what is told of the wishes decides them
+
+won_once : (v w : Option Wish) → won_told v ≡ won_told w → v ≡ w
+won_once None None e = refl
+won_once None (Some First) e = absurd (omega arith)
+won_once None (Some Second) e = absurd (omega arith)
+won_once (Some First) None e = absurd (omega arith)
+won_once (Some First) (Some First) e = refl
+won_once (Some First) (Some Second) e = absurd (omega arith)
+won_once (Some Second) None e = absurd (omega arith)
+won_once (Some Second) (Some First) e = absurd (omega arith)
+won_once (Some Second) (Some Second) e = refl
+
+pub wishes_once : (v w : Wishes) → wishes_told v ≡ wishes_told w → v ≡ w
+wishes_once v w e =
+    let n = won_once v.won w.won (ap (λ (x : Wished). x.won) e) in
+    let a = told_once v.first w.first (ap (λ (x : Wished). x.first) e) in
+    let b = told_once v.second w.second (ap (λ (x : Wished). x.second) e) in
+    λ i. record { won = n i; first = a i; second = b i }

@@ -2,7 +2,7 @@
 use Rattle.std.specs.Prelude.{◌≡◌, refl, List, [], ◌∷◌, map, ℕ, take, replicate}
 use Rattle.lists.specs.Rows.{first}
 use Rattle.lists.specs.Tests.{within, all_of, any_of, index_of, elem, same}
-use Rattle.lists.specs.declared.Answer.{Answer}
+use Rattle.lists.specs.Rows.{Answer}
 use Rattle.characters.specs.Characters.{alnum, hyphen, ascii_set, separators, separator, kinds, signs, signs_in, stretch}
 use Rattle.characters.specs.Characters.{kind_among, kind_by, any_kind, kanji_with, kind_with}
 use Rattle.characters.specs.Compose.{voiced, repeats, half_voiced, either_kana, composed}
@@ -17,7 +17,7 @@ use Rattle.rules.specs.Rules.{class_of, verdict, rules}
 use Rattle.rules.specs.Prefectures.{latin_prefectures, japanese_prefectures, prefectures}
 use Rattle.rules.specs.Editions.{middles_in, edition_with, today_with}
 use Rattle.wishes.specs.Wishes.{alone, won_by, winner, wished, part_length, winners, handed_length}
-use Rattle.wishes.specs.declared.Wished.{Wished}
+use Rattle.wishes.specs.Wishes.{Wished}
 
 -- two texts; which won, and what is said of each; the part that is handed back
 pub record Pair : Type 0 where

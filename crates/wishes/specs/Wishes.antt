@@ -1,12 +1,15 @@
 -- First and second wish: document 02, K1. Over any edition; the calls ask the one in force.
-use Rattle.std.specs.Prelude.{List, ◌≡◌, ℕ, eqb, take}
+use Rattle.std.specs.Prelude.{Option, Some, None, List, ◌≡◌, ℕ, eqb, take}
 use Rattle.std.specs.Borrow.{Bor}
 use Rattle.lists.specs.Tests.{pick, index_of}
-use Rattle.lists.specs.declared.Answer.{Answer}
+use Rattle.lists.specs.Rows.{Answer}
 use Rattle.characters.specs.Characters.{separator}
 use Rattle.rules.specs.Permits.{Permits}
 use Rattle.rules.specs.Rules.{rules}
-use Rattle.wishes.specs.declared.Wished.{Wished}
+use Rattle.refusals.specs.Refusals.{told}
+use Rattle.wishes.specs.declared.Wish.{Wish}
+use Rattle.wishes.specs.declared.Wish.TheVariants.{First, Second}
+use Rattle.wishes.specs.declared.Wishes.{Wishes}
 
 -- ---- which wish won
 
@@ -22,6 +25,19 @@ won_by a b = pick (eqb a 0) 1 (pick (eqb b 0) 2 0)
 
 unfoldable pub winner : Permits → List ℕ → List ℕ → ℕ
 winner P first second = won_by (alone P first).number (alone P second).number
+
+pub record Wished : Type 0 where
+  pub won : ℕ
+  pub first : Answer
+  pub second : Answer
+
+abbrev pub won_told : Option Wish → ℕ
+won_told None = 0
+won_told (Some First) = 1
+won_told (Some Second) = 2
+
+abbrev pub wishes_told : Wishes → Wished
+wishes_told w = record { won = won_told w.won; first = told w.first; second = told w.second }
 
 unfoldable pub wished : Permits → List ℕ → List ℕ → Wished
 wished P first second =

@@ -5,71 +5,85 @@
 // `.._with` is lent the table of kanji; the call without names it itself.
 #![tactic(auto)]
 
-ghost use Rattle.std.specs.Prelude.{◌≡◌, ◌≤◌, length};
-ghost use Rattle.rules.specs.Editions.{today, today_with};
-ghost use Rattle.wishes.specs.Wishes.{alone, won_by, part_length, handed_length, wished, Begins, Hands};
+ghost use Rattle.std.specs.Prelude.{◌≡◌, Some};
+ghost use Rattle.refusals.specs.Refusals.{told};
+ghost use Rattle.rules.specs.Editions.{permits, today, today_with};
+ghost use Rattle.wishes.specs.Wishes.{alone, won_by, won_told, wishes_told, part_length, handed_length, wished, Hands};
 
-use characters::replaced;
-use lists::Answer;
+use characters::{Edition, replaced};
 use names::check_with;
+use normal::MOST;
+use refusals::Refused;
 use rules::IN_FORCE;
-
-const ACCEPTED: u8 = 0;
 
 const PERIOD: u32 = 0x2E;
 
-// Which wish won: 1 or 2, or 0 for neither. Number and place of the check of each.
-#[derive(Clone, Copy)]
-pub struct Wished {
-    pub won: u8,
-    pub first: Answer,
-    pub second: Answer,
+// The wishes by their numbers.
+#[derive(Clone, Copy, PartialEq, Eq, Debug)]
+pub enum Wish {
+    First = 1,
+    Second = 2,
 }
 
-// Number and place of the check of a text that stands alone, with room enough: what is lent for its normal form.
-fn checked_alone(kanji: &[u32], text: &[u32], room: &mut [u32]) -> Answer
-    requires { 256 ≤ length room.old }
-    ensures { result ≡ alone (today_with kanji.now) text.now }
-{
-    let checked = check_with(kanji, IN_FORCE, text, room);
-    Answer {
-        number: checked.number,
-        place: checked.place,
+// The number of a wish.
+impl From<Wish> for u8 {
+    fn from(wish: Wish) -> u8
+        ensures { result ≡ won_told (Some wish) }
+    {
+        wish as u8
     }
+}
+
+// Which wish won, if one did, and what the check says of each.
+#[derive(Clone, Copy)]
+pub struct Wishes {
+    pub won: Option<Wish>,
+    pub first: Result<(), Refused>,
+    pub second: Result<(), Refused>,
+}
+
+// What the check says of a text that stands alone, with room enough: what is lent for its normal form.
+fn checked_alone(edition: &Edition, text: &[u32], room: &mut [u32; MOST]) -> Result<(), Refused>
+    ensures { told result ≡ alone (permits edition.now) text.now }
+{
+    check_with(edition, text, room)?;
+    Ok(())
 }
 
 // The first wish is asked before the second.
-fn won_by(first: u8, second: u8) -> u8
-    ensures { result ≡ won_by first second }
+fn won_by(first: Result<(), Refused>, second: Result<(), Refused>) -> Option<Wish>
+    ensures { won_told result ≡ won_by (told first).number (told second).number }
 {
-    if first == ACCEPTED {
-        return 1;
+    if first.is_ok() {
+        Some(Wish::First)
+    } else if second.is_ok() {
+        Some(Wish::Second)
+    } else {
+        None
     }
-    if second == ACCEPTED {
-        return 2;
-    }
-    0
 }
 
 // Which wish won, and what the check says of each text as if it stood alone.
-pub fn which_won_with(kanji: &[u32], first: &[u32], second: &[u32]) -> Wished
-    ensures { result ≡ wished (today_with kanji.now) first.now second.now }
+pub fn which_won_with(kanji: &[u32], first: &[u32], second: &[u32]) -> Wishes
+    ensures { wishes_told result ≡ wished (today_with kanji.now) first.now second.now }
 {
-    let mut form = [0u32; 256];
-    let room: &mut [u32] = &mut form;
-    let one = checked_alone(kanji, first, room);
-    let two = checked_alone(kanji, second, room);
-    let won = won_by(one.number, two.number);
-    Wished {
-        won,
+    let edition = Edition {
+        kanji,
+        number: IN_FORCE,
+    };
+    let mut form = [0; MOST];
+    let one = checked_alone(&edition, first, &mut form);
+    let two = checked_alone(&edition, second, &mut form);
+    Wishes {
+        won: won_by(one, two),
         first: one,
         second: two,
     }
 }
 
 // The same by the kanji themselves.
-pub fn which_won(first: &[u32], second: &[u32]) -> Wished
-    ensures { result ≡ wished today first.now second.now }
+pub fn which_won(first: &[u32], second: &[u32]) -> Wishes
+    ensures { wishes_told result ≡ wished today first.now second.now }
 {
     let kanji = characters::kanji_bits();
     which_won_with(&kanji, first, second)
@@ -80,37 +94,21 @@ pub fn which_won(first: &[u32], second: &[u32]) -> Wished
 fn part_length(text: &[u32]) -> usize
     ensures { result ≡ part_length text.now }
 {
-    let mut i = 0;
-    while i < text.len() {
-        if replaced(text[i]) == PERIOD {
-            return i;
-        }
-        i += 1;
-    }
-    i
+    text.iter()
+        .position(|&c| replaced(c) == PERIOD)
+        .unwrap_or(text.len())
 }
 
-// How long the part of the wish that won is: nothing where neither won.
+// How long the part of the wish of this number is, where that won: nothing with 0, where neither did. It takes a number and no `Wish`, since
+// it says something of any.
 pub fn handed_length(won: u8, first: &[u32], second: &[u32]) -> usize
     ensures { result ≡ handed_length won first.now second.now }
 {
-    if won == 0 {
-        return 0;
+    match won {
+        0 => 0,
+        2 => part_length(second),
+        _ => part_length(first),
     }
-    if won == 2 {
-        return part_length(second);
-    }
-    part_length(first)
-}
-
-// The first n code points of a text, or all: a part of the slice, from its start.
-fn beginning<'a>(text: &'a [u32], n: usize) -> &'a [u32]
-    ensures { Begins text.entry n result }
-{
-    if n < text.len() {
-        return &text[..n];
-    }
-    text
 }
 
 // The part before the first separator, out of the wish that won: the beginning of one of the two slices. Where neither won, the empty part
@@ -118,19 +116,20 @@ fn beginning<'a>(text: &'a [u32], n: usize) -> &'a [u32]
 pub fn wished_part_with<'a>(kanji: &[u32], first: &'a [u32], second: &'a [u32]) -> &'a [u32]
     ensures { Hands (today_with kanji.now) first.entry second.entry result }
 {
-    let mut form = [0u32; 256];
-    let room: &mut [u32] = &mut form;
-    let a = checked_alone(kanji, first, room);
-    if a.number == ACCEPTED {
+    let edition = Edition {
+        kanji,
+        number: IN_FORCE,
+    };
+    let mut form = [0; MOST];
+    if checked_alone(&edition, first, &mut form).is_ok() {
         let n = part_length(first);
-        return beginning(first, n);
+        return &first[..n];
     }
-    let b = checked_alone(kanji, second, room);
-    if b.number == ACCEPTED {
+    if checked_alone(&edition, second, &mut form).is_ok() {
         let n = part_length(second);
-        return beginning(second, n);
+        return &second[..n];
     }
-    beginning(first, 0)
+    &first[..0]
 }
 
 // The same by the kanji themselves.

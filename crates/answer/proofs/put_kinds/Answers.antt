@@ -26,9 +26,9 @@ returns-then-d-n c =
     (then (then (then c.put_found-a.ensures c.put_found-b.ensures) c.put_found-c.ensures) c.put_found-d.ensures)
     c.if-d-n.true c.put_byte.ensures
 
-pub returns : goal.returns
+pub returns-else-d-n : goal.returns-else-d-n
 unfolding kind_letters kind_letter
-returns c =
+returns-else-d-n c =
     letters_put c.args.kinds
     (then (then (then c.put_found-a.ensures c.put_found-b.ensures) c.put_found-c.ensures) c.put_found-d.ensures)
     c.if-d-n.false

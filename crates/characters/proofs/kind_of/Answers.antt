@@ -7,4 +7,4 @@ use Rattle.characters.proofs.kind_of.Goals as goal
 
 pub returns : goal.returns
 unfolding kanji_bits
-returns c = c.kind_with.ensures ∙ lent _ _
+returns c = c.kind.ensures ∙ lent _ _

@@ -2,10 +2,11 @@
 -- Assumes nothing.
 use Rattle.std.proofs.Common.{refl, ◌∙◌}
 use Rattle.lists.proofs.Pieces.{puts_inside}
-use Rattle.desk.proofs.Pieces.{handed, at_end}
+use lib.Seq.{length-take-le}
+use Rattle.desk.proofs.Pieces.{at_end}
 use Rattle.desk.proofs.end.Goals as goal
 
 pub returns : goal.returns
 returns g c =
-    let f = c.finish_with-f.ensures in
-    record { line = refl; handed = c.write-w.ensures ∙ handed _ (puts_inside f.text) ∙ at_end c.requires.0 c.requires.1 f }
+    let told = rw c.unwrap-length.ensures at c.finish_with.ensures in
+    record { line = refl; handed = c.in_ok-count.ensures ∙ length-take-le _ _ (puts_inside told.text) ∙ at_end c.requires.0 c.requires.1 told }

@@ -1,15 +1,17 @@
-use native.Mathlib.Omega.{arith}
-use Rattle.lists.proofs.Scan.{any_here, any_on, any_end}
+-- `holds_japanese_with` meets its contract: each character is asked.
+-- Assumes nothing.
+use mathlib.Core.Path.{◌∙◌}
+use Rattle.std.proofs.Common.{rules, tests}
+use Rattle.std.proofs.lemmas.Iterator.{YieldsList-from_slice}
+use Rattle.std.proofs.lemmas.Iterator.Search.{any_from_yields_List}
+use Rattle.lists.proofs.Chains.{any_is}
+use Rattle.rules.specs.Permits.{ja_char}
 use Rattle.rules.specs.Rules.{is_japanese}
+use Rattle.rules.specs.Editions.{permits}
 use Rattle.labels.proofs.holds_japanese_with.Goals as goal
-
-pub returns-then-is_ja : goal.returns-then-is_ja
-unfolding is_japanese
-returns-then-is_ja c = any_here _ _ _ (omega arith) c.loop-i.invariant.1 c.is_ja.ensures c.if-is_ja.true
-
-pub loop-i-preserved : goal.loop-i-preserved
-loop-i-preserved c = (omega arith, any_on _ _ _ (omega arith) c.loop-i.invariant.1 c.is_ja.ensures c.if-is_ja.false)
 
 pub returns : goal.returns
 unfolding is_japanese
-returns c = any_end _ _ c.loop-i.i (omega arith) c.loop-i.invariant.1
+returns c =
+    any_from_yields_List (ja_char (permits c.args.edition.now)) _ _ _ c.any.ensures.ran (YieldsList-from_slice _ c.iter.ensures.rest) (λ x b q k. search (rules, tests))
+    ∙ any_is _ _

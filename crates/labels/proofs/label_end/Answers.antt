@@ -1,17 +1,19 @@
-use mathlib.Core.Path.{refl}
-use native.Mathlib.Omega.{arith}
-use borrow.Author.Tests.{eq-eqb, ne_eqb}
-use Rattle.lists.proofs.Scan.{first_here, first_on, first_end}
+-- `label_end` meets its contract: the first period of what is left from `from` on.
+-- Assumes nothing.
+use mathlib.Core.Path.{◌≡◌, ◌∙◌, ap, refl}
+use Prim.Native.Nat.{ℕ, ◌+◌}
+use Rattle.std.proofs.Common.{rules, tests}
+use Rattle.std.proofs.lemmas.Iterator.{YieldsList-from_slice}
+use Rattle.std.proofs.lemmas.Iterator.Search.{position_from_yields_List}
+use Rattle.lists.specs.Tests.{index_of}
 use Rattle.rules.specs.Labels.{period}
+use Rattle.labels.proofs.Searching.{index_or_length, left_from}
 use Rattle.labels.proofs.label_end.Goals as goal
 
-pub returns-then-text-i-eq-PERIOD : goal.returns-then-text-i-eq-PERIOD
-unfolding period
-returns-then-text-i-eq-PERIOD c = first_here period _ _ (omega arith) _ c.loop-i.invariant refl (eq-eqb _ _ c.if-text-i-eq-PERIOD.true)
-
-pub loop-i-preserved : goal.loop-i-preserved
-unfolding period
-loop-i-preserved c = first_on period _ _ (omega arith) _ c.loop-i.invariant refl (ne_eqb _ _ c.if-text-i-eq-PERIOD.false)
-
 pub returns : goal.returns
-returns c = first_end period _ c.loop-i.i _ (omega arith) c.loop-i.invariant
+unfolding period
+returns c =
+    let n : c.unwrap_or.result ≡ index_of period c.unwrap_or-rest.result.now =
+    index_or_length period _ (position_from_yields_List _ _ _ c.position.result c.position.ensures.ran (YieldsList-from_slice _ c.iter.ensures.rest) (λ x b q k. search (rules, tests)))
+    c.unwrap_or.ensures in
+    ap (λ (k : ℕ). c.args.from + k) (n ∙ ap (index_of period) (left_from _ _ _ _ c.get.ensures.lookup c.unwrap_or-rest.ensures refl))

@@ -1,23 +1,35 @@
-use mathlib.Core.Path.{refl}
-use borrow.Author.Tests.{eq-eqb, ne_eqb}
-use Rattle.lists.proofs.Scan.{first_here, first_on, first_end}
-use Rattle.lines.proofs.find.Invariants.{is}
+-- `find` meets its contract: what the library's search answers is the first place from `from` on; past the end nothing is left to search.
+-- Assumes nothing.
+use mathlib.Core.Path.{◌≡◌, ap, ◌∙◌}
+use mathlib.Core.Bool.{Bool}
+use Prim.Native.Nat.{ℕ, ◌+◌, ◌-◌, ◌≤◌}
+use native.Mathlib.Omega.{arith}
+use borrow.Author.Rules.{rules}
+use borrow.Author.Tests.{tests}
+use lib.Dec.{eqb}
+use Rattle.std.proofs.lemmas.Iterator.{YieldsList-from_slice}
+use Rattle.std.proofs.lemmas.Iterator.Search.{position_from_yields_List}
+use lib.ListN.{length, drop, length-drop, drop_of_length-le}
+use lib.Seq.{take_all}
+use Rattle.lists.specs.Tests.{index_of}
+use Rattle.lines.proofs.LineFields.{first_or_end}
 use Rattle.lines.proofs.find.Goals as goal
 
-pub loop-i-init : goal.loop-i-init
-loop-i-init c = refl
+abbrev is : ℕ → ℕ → Bool
+is b x = eqb x b
 
-pub returns-then-s-i : goal.returns-then-s-i
-returns-then-s-i c =
-    let l = c.loop-i in
-    first_here (is _) _ l.i c.loop-i-test.true _ l.invariant refl (eq-eqb _ _ c.if-s-i.true)
+pub returns-in-Some : goal.returns-in-Some
+returns-in-Some c =
+    let s = c.args.s.now in
+    let xs = c.in-Some.rest.now in
+    let p = position_from_yields_List (is c.args.b) _ _ _ c.position.ensures.ran (YieldsList-from_slice xs cc) (λ x b q k. search (rules, tests)) in
+    let d : xs ≡ drop c.args.from s = c.in-Some.ensures.lookup.0.2 ∙ take_all (length s - c.args.from) (drop c.args.from s) (omega (arith, length-drop c.args.from s)) in
+    ap (λ n. c.args.from + n) (c.unwrap_or.ensures ∙ first_or_end (is c.args.b) xs _ p ∙ ap (index_of (is c.args.b)) d)
 
-pub loop-i-preserved : goal.loop-i-preserved
-loop-i-preserved c =
-    let l = c.loop-i in
-    first_on (is _) _ l.i c.loop-i-test.true _ l.invariant refl (ne_eqb _ _ c.if-s-i.false)
-
-pub returns : goal.returns
-returns c =
-    let l = c.loop-i in
-    first_end (is _) _ l.i _ c.loop-i-test.false l.invariant
+pub returns-in-None : goal.returns-in-None
+unfolding index_of
+returns-in-None c =
+    let s = c.args.s.now in
+    let h : length s ≤ c.args.from = omega (arith, c.in-None.ensures.lookup.0) in
+    let e : index_of (is c.args.b) (drop c.args.from s) ≡ 0 = rw (drop_of_length-le s h) in
+    omega (arith, e)

@@ -1,14 +1,16 @@
 -- `split` meets its contract: the first field ends at the first tab, the second at the end of the line unless there is another.
 -- Assumes nothing.
-use native.Mathlib.Omega.{arith}
-use Rattle.lines.proofs.LineFields.{no_tab, two_tabs, one_tab_lem}
+use lib.ListN.{length}
+use borrow.Author.Tests.{le-ltb}
+use Rattle.lines.proofs.LineFields.{no_tab, at_most_one}
+use Rattle.lines.proofs.split.Goals.{then-tab-line, else-tab-line}
 use Rattle.lines.proofs.split.Goals as goal
 
-pub returns-then-line-tab : goal.returns-then-line-tab
-returns-then-line-tab c = no_tab c.args.line.now c.fields-both.result c.fields-both.ensures c.if-line-tab.true
-
-pub returns-then-end-line : goal.returns-then-end-line
-returns-then-end-line c = two_tabs c.args.line.now c.fields-both.result c.fields-both.ensures c.if-line-tab.false (omega (arith, c.if-line-tab.false, c.if-end-line.true))
-
 pub returns : goal.returns
-returns c = one_tab_lem c.args.line.now c.fields-both.result c.fields-both.ensures c.if-line-tab.false c.if-end-line.false
+returns c =
+    let both = c.fields-both in
+    let line = c.args.line.now in
+    elim c.if-tab-line.branch [
+      | then-tab-line w ↦ rw c.then_some.ensures (at_most_one line both.result both.ensures w.if-tab-line.true _ w.alone-is)
+      | else-tab-line w ↦ rw (c.then_some.ensures, w.alone-is, le-ltb both.result.id.end (length line) w.if-tab-line.false) (no_tab line both.result both.ensures w.if-tab-line.false)
+    ]

@@ -1,15 +1,8 @@
-use native.Mathlib.Omega.{arith}
-use Rattle.lists.proofs.Scan.{unlike, same_no, same_on, same_end}
+-- `same` meets its contract: two slices are equal where they are the same, entry by entry.
+-- Assumes nothing.
+use mathlib.Core.Path.{◌∙◌}
+use Rattle.lists.proofs.Chains.{same_is}
 use Rattle.lists.proofs.same.Goals as goal
 
-pub returns-then-a-b : goal.returns-then-a-b
-returns-then-a-b c = unlike _ _ c.if-a-b.true
-
-pub returns-then-a-i : goal.returns-then-a-i
-returns-then-a-i c = same_no _ _ _ c.loop-i.invariant.1 (omega arith) (omega arith) c.if-a-i.true
-
-pub loop-i-preserved : goal.loop-i-preserved
-loop-i-preserved c = (omega arith, same_on _ _ _ c.loop-i.invariant.1 (omega arith) (omega arith) c.if-a-i.false)
-
 pub returns : goal.returns
-returns c = same_end _ _ c.loop-i.i c.loop-i.invariant.1 (omega arith) (omega arith)
+returns c = c.eq.ensures ∙ same_is _ _

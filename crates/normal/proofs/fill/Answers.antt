@@ -1,20 +1,20 @@
-use mathlib.Core.Path.{◌∙◌}
-use native.Mathlib.Omega.{arith}
-use lib.ListN.{length-set}
-use Rattle.normal.proofs.Pending.{fill_begins, pushed, merged, filled}
+use mathlib.Core.Path.{refl, sym, ◌∙◌}
+use Rattle.normal.proofs.Pending.{fill_begins, pushed, merged, filled, apart, one_is}
+use Rattle.normal.proofs.fill.Goals.{in-None, in-Some}
 use Rattle.normal.proofs.fill.Goals as goal
 
-pub loop-i-init : goal.loop-i-init
-loop-i-init c = fill_begins _ _ _ (omega arith) c.replaced-last.ensures
+pub loop-raw-init : goal.loop-raw-init
+loop-raw-init c = fill_begins _ _ _ c.replaced-last.ensures
 
-pub loop-i-preserved-then-one-eq0 : goal.loop-i-preserved-then-one-eq0
-loop-i-preserved-then-one-eq0 c = pushed c.loop-i.invariant (omega arith) (omega arith) c.replaced-next.ensures c.joined-one.ensures c.if-one-eq0.true
-
-pub loop-i-preserved : goal.loop-i-preserved
-loop-i-preserved c = merged c.loop-i.invariant (omega arith) (omega arith) c.replaced-next.ensures c.joined-one.ensures c.if-one-eq0.false
-
-pub shape_of-out : goal.shape_of-out
-shape_of-out c = let l = c.loop-i in length-set l.out l.n l.last ∙ l.invariant.long
+pub loop-raw-preserved : goal.loop-raw-preserved
+loop-raw-preserved c =
+    let l = c.loop-raw in
+    elim c.match-joined.branch [
+      | in-None w ↦ rw (w.out-is, w.last-is, w.n-is) (pushed l.invariant c.requires c.loop-raw-test.true c.replaced-next.ensures refl (apart _ (sym w.in-None.is ∙ c.joined.ensures)))
+      | in-Some w ↦
+          let one = one_is _ (sym w.in-Some.is ∙ c.joined.ensures) in
+          rw (w.out-is, w.last-is, w.n-is) (merged l.invariant c.requires c.loop-raw-test.true c.replaced-next.ensures one.0 one.1)
+    ]
 
 pub returns : goal.returns
-returns c = filled c.loop-i.invariant (omega arith) (omega arith)
+returns c = filled c.loop-raw.invariant c.requires c.loop-raw-test.false

@@ -1,35 +1,31 @@
 -- `decode` meets its contract: each return is one of the answers, by the room, the length, and whether a label is found.
 -- Assumes nothing.
 use mathlib.Core.Path.{◌≡◌, refl, sym, ap, ◌∙◌}
+use mathlib.Core.List.{map}
 use native.Mathlib.Omega.{arith}
-use lib.ListN.{length, take}
-use lib.Seq.{length-take-le}
+use Rattle.lists.specs.Front.{written}
+use Rattle.punycode.specs.Calls.{lower}
 use Rattle.punycode.specs.Decoding.{found}
-use Rattle.punycode.proofs.Answers.{from_start, decodes_small, decodes_long, decodes_left, decodes_taken}
+use Rattle.punycode.proofs.Answers.{decodes_small, decodes_long, decodes_left, decodes_taken}
+use Rattle.punycode.proofs.Rungs.{lowered}
 use Rattle.punycode.proofs.decode.Goals as goal
 
 pub returns-then-out-lt-ROOM : goal.returns-then-out-lt-ROOM
-returns-then-out-lt-ROOM c = decodes_small c.args.octets.now _ _ c.if-out-lt-ROOM.true c.refused_octets.ensures
+returns-then-out-lt-ROOM c = rw c.at.ensures (decodes_small c.args.octets.now _ _ c.if-out-lt-ROOM.true refl)
 
-pub returns-then-n-gt-ROOM : goal.returns-then-n-gt-ROOM
-returns-then-n-gt-ROOM c = decodes_long c.args.octets.now _ _ c.if-out-lt-ROOM.false c.if-n-gt-ROOM.true c.refused_octets-then-n-gt-ROOM.ensures
+pub returns-then-octets-gt-ROOM : goal.returns-then-octets-gt-ROOM
+returns-then-octets-gt-ROOM c = rw c.at-then-octets-gt-ROOM.ensures (decodes_long c.args.octets.now _ _ c.if-out-lt-ROOM.false c.if-octets-gt-ROOM.true refl)
 
-pub returns-then-not-ok : goal.returns-then-not-ok
-returns-then-not-ok c =
-    let w = c.lowers in
-    let f = c.found-found in
-    let low = w.new.out in
+pub returns-in_default : goal.returns-in_default
+returns-in_default c =
     let octets = c.args.octets.now in
-    decodes_left octets _ _ c.if-out-lt-ROOM.false _ _ (ap found (sym (from_start (length octets) low ∙ w.ensures)) ∙ f.ensures.1)
-    c.if-not-ok.true c.refused_octets-then-not-ok.ensures
+    let low : c.make_ascii_lowercase.new.self ≡ map lower octets = c.make_ascii_lowercase.ensures.after ∙ rw c.copy_from_slice.ensures.after (lowered octets) in
+    rw c.at-in_default.ensures (decodes_left octets _ _ c.if-out-lt-ROOM.false (ap found (sym low) ∙ c.in_default.ensures.1) refl)
 
 pub returns : goal.returns
 returns c =
-    let w = c.lowers in
-    let f = c.found-found in
-    let low = w.new.out in
     let octets = c.args.octets.now in
-    let text = take f.result.len f.new.out in
-    let size : length text ≡ f.result.len = length-take-le f.result.len f.new.out (omega (arith, f.auto.out)) in
-    decodes_taken octets _ _ c.if-out-lt-ROOM.false _ text (ap found (sym (from_start (length octets) low ∙ w.ensures)) ∙ f.ensures.1) _
-    c.if-not-ok.false (omega arith) (omega arith) (rw size refl) (rw from_start at c.copy.ensures)
+    let low : c.make_ascii_lowercase.new.self ≡ map lower octets = c.make_ascii_lowercase.ensures.after ∙ rw c.copy_from_slice.ensures.after (lowered octets) in
+    let l = c.in-Some in
+    decodes_taken octets _ _ c.if-out-lt-ROOM.false l.label _ (ap found (sym low) ∙ l.ensures.1) (omega arith) refl
+    (unfold written in rw c.copy_from_slice-2.ensures.after refl)

@@ -2,25 +2,20 @@
 -- Assumes nothing.
 use mathlib.Core.Path.{◌∙◌}
 use native.Mathlib.Omega.{arith}
+use borrow.Author.Tests.{lt-leb}
 use Rattle.rules.specs.Reader.{nothing}
-use Rattle.readers.proofs.Reading.{note_count, no_label, too_long, hyphen_first, begins, to_character, unread}
+use Rattle.readers.proofs.Reading.{no_label, too_long, hyphen_first, begins}
 use Rattle.readers.proofs.reads_with.Goals as goal
 
-pub returns-then-n-eq0 : goal.returns-then-n-eq0
-returns-then-n-eq0 c = no_label _ _ c.if-n-eq0.true
+pub returns-in-empty : goal.returns-in-empty
+returns-in-empty c = no_label _ _ (omega arith)
 
-pub returns-then-n-gt63 : goal.returns-then-n-gt63
-returns-then-n-gt63 c = too_long _ _ (omega arith)
+pub returns-in-empty-2 : goal.returns-in-empty-2
+returns-in-empty-2 c = hyphen_first _ _ (λ e. omega arith) (omega arith)
 
-pub returns-then-x-eq-HYPHEN : goal.returns-then-x-eq-HYPHEN
-returns-then-x-eq-HYPHEN c = hyphen_first _ _ c.if-n-eq0.false c.if-x-eq-HYPHEN.true
+pub returns-else-label-le63 : goal.returns-else-label-le63
+returns-else-label-le63 c = lt-leb _ _ c.if-label-le63.false ∙ too_long _ _ (omega arith)
 
-pub after_character-requires : goal.after_character-requires
-after_character-requires c = omega (arith, note_count _ _ _ c.noted.ensures)
-
-pub returns-then-in_label_with : goal.returns-then-in_label_with
+pub returns-then-label-le63 : goal.returns-then-label-le63
 unfolding nothing
-returns-then-in_label_with c = to_character _ _ nothing c.if-n-eq0.false c.if-x-eq-HYPHEN.false c.in_label_with.ensures c.if-in_label_with.true c.noted.ensures c.after_character.ensures ∙ begins _ _ c.if-n-eq0.false c.if-x-eq-HYPHEN.false
-
-pub returns : goal.returns
-returns c = unread _ _ nothing c.if-n-eq0.false c.if-x-eq-HYPHEN.false c.in_label_with.ensures c.if-in_label_with.false ∙ begins _ _ c.if-n-eq0.false c.if-x-eq-HYPHEN.false
+returns-then-label-le63 c = c.after_character.ensures ∙ begins _ _ (λ e. omega arith) (λ e. omega arith)

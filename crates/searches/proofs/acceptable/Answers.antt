@@ -4,39 +4,42 @@
 use mathlib.Core.Path.{◌≡◌, refl, sym, ◌∙◌}
 use mathlib.Core.Bool.{false}
 use Prim.Native.Nat.{◌+◌}
-use native.Mathlib.Omega.{arith}
-use Rattle.lists.proofs.Laws.{in_range}
 use Rattle.characters.specs.KanjiBits.{kanji_bits}
 use Rattle.rules.specs.Permits.{Permits}
 use Rattle.rules.specs.Editions.{today}
 use Rattle.rules.proofs.Editions.{today_laws, lending}
 use Rattle.searches.specs.Searches.{searched}
-use Rattle.searches.proofs.Tableless.{inside_at, again, anyway}
+use Rattle.searches.proofs.Tableless.{anyway, goes_on, comes_to_end}
 use Rattle.searches.proofs.Searching.{said, lent_there, unread_so, stopped}
+use Rattle.searches.proofs.Stops.{stopped_at}
 use Rattle.searches.proofs.acceptable.Goals as goal
+use Rattle.searches.proofs.acceptable.Goals.{in-Some+else-not-may_be_kanji, in_default, in-Some-stop, in-None}
 
 pub returns-then-not-is_read : goal.returns-then-not-is_read
 returns-then-not-is_read c = unread_so today _ today_laws.there_is (sym c.is_read.ensures ∙ c.if-not-is_read.true)
 
-pub overflow_add-result : goal.overflow_add-result
-overflow_add-result c =
-    let h = inside_at _ _ (sym c.no_kanji_at.ensures ∙ c.if-no_kanji_at.true) in
-    let r = sym c.is_read.ensures ∙ c.if-not-is_read.false in
-    omega (arith, h, (in_range 1 256 _ r).1)
-
-pub returns-then-no_kanji_at : goal.returns-then-no_kanji_at
-returns-then-no_kanji_at c =
+pub returns-then-not-may_be_kanji : goal.returns-then-not-may_be_kanji
+returns-then-not-may_be_kanji c =
     let text = c.args.text.now in
-    let h = sym c.no_kanji_at.ensures ∙ c.if-no_kanji_at.true in
     let r = sym c.is_read.ensures ∙ c.if-not-is_read.false in
-    lending (λ (P : Permits). said false (c.first_stop-at.result + 1) ≡ searched P text) 4 {table = kanji_bits} refl
-    (stopped _ text (lent_there kanji_bits) r (anyway kanji_bits text c.first_stop-at.ensures h) (inside_at _ _ h))
+    let h = stopped_at _ _ (sym c.in-Some.is ∙ c.first_stop-stop.ensures) in
+    lending (λ (P : Permits). said false (c.in-Some.at + 1) ≡ searched P text) 4 {table = kanji_bits} refl
+    (stopped _ text (lent_there kanji_bits) r (anyway kanji_bits text h.0 h.1 (sym c.may_be_kanji.ensures ∙ c.if-not-may_be_kanji.true)) h.1)
 
 pub answered-requires : goal.answered-requires
-answered-requires c = record {
-  read = sym c.is_read.ensures ∙ c.if-not-is_read.false;
-  place = c.first_stop-stop.ensures ∙ again _ _ c.first_stop-at.ensures;
-}
+answered-requires c =
+    let table = c.kanji_bits-kanji.result in
+    let text = c.args.text.now in
+    let e : c.match-stop.stop ≡ c.first_stop-stop.result =
+    elim c.match-stop.branch [ in-Some+else-not-may_be_kanji w ↦ w.stop-is ∙ sym w.in-Some.is | in_default w ↦ w.stop-is ] in
+    record {
+      there_is = lent_there table;
+      read = sym c.is_read.ensures ∙ c.if-not-is_read.false;
+      place = elim c.match-stop-2.branch [
+        | in-Some-stop w ↦ rw w.stop-is (goes_on table text (sym w.in-Some-stop.is ∙ e ∙ c.first_stop-stop.ensures) w.first_stop-stop-in-Some-stop.ensures)
+        | in-None w ↦ rw w.stop-is (comes_to_end table text (sym w.in-None.is ∙ e ∙ c.first_stop-stop.ensures))
+      ];
+    }
 
 pub returns : goal.returns
 returns c = lending (λ (P : Permits). c.answered.result ≡ searched P c.args.text.now) 4 c.kanji_bits-kanji.ensures c.answered.ensures

@@ -1,15 +1,8 @@
--- `is_read` meets its contract: 0 is too few, and from 1 on the last decides.
+-- `is_read` meets its contract: the range is the test.
 -- Assumes nothing.
-use mathlib.Core.Path.{sym}
-use native.Mathlib.Omega.{arith}
-use borrow.Author.Tests.{le-leb}
-use Rattle.lists.specs.Tests.{within}
-use Rattle.lists.proofs.Laws.{outside}
+use mathlib.Core.Path.{refl, ◌∙◌}
+use Rattle.searches.proofs.Ranges.{range_is}
 use Rattle.searches.proofs.is_read.Goals as goal
 
-pub returns-then-n-eq0 : goal.returns-then-n-eq0
-returns-then-n-eq0 c = sym (outside 1 256 _ (λ p q. omega arith))
-
 pub returns : goal.returns
-unfolding within
-returns c = rw (le-leb 1 c.args.n (omega arith))
+returns c = let n = c.new.ensures in c.contains.ensures.value ∙ range_is (λ a b. refl) _ n.start n.end n.exhausted

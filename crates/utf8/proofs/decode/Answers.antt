@@ -7,7 +7,7 @@ use Rattle.utf8.proofs.decode.Goals as goal
 pub returns-then-not-is_well_formed : goal.returns-then-not-is_well_formed
 returns-then-not-is_well_formed c =
     let w = c in
-    rw c.told.ensures (refused w.args.bytes.now _ (sym w.is_well_formed.ensures ∙ c.if-not-is_well_formed.true))
+    (refused w.args.bytes.now _ (sym w.is_well_formed.ensures ∙ c.if-not-is_well_formed.true))
 
 pub returns : goal.returns
 returns c =

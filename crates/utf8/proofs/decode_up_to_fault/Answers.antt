@@ -1,78 +1,23 @@
-use mathlib.Core.Path.{sym, ◌∙◌}
-use native.Mathlib.Omega.{arith}
-use Rattle.lists.proofs.Laws.{in_range}
-use Rattle.utf8.proofs.Decoding.{begins, stays, puts_one, faults, ends, ascii, begun_lead, no_lead, starts_lead, no_next, onward, ended, unfit, fits, grows}
+use mathlib.Core.Path.{refl}
+use Rattle.utf8.proofs.Decoding.{starts, stays, puts_one, faults, ends}
+use Rattle.utf8.proofs.decode_up_to_fault.Goals.{in-More, in-Code}
 use Rattle.utf8.proofs.decode_up_to_fault.Goals as goal
 
-pub loop-i-init : goal.loop-i-init
-loop-i-init c = begins _ _
+pub loop-b-init : goal.loop-b-init
+loop-b-init c = starts _ _
 
-pub loop-i-preserved-then-b-lt128 : goal.loop-i-preserved-then-b-lt128
-loop-i-preserved-then-b-lt128 c =
-    let l = c.loop-i in
-    let t = c.loop-i-test.true in
-    let w = c.as_number-b in
-    puts_one l.invariant t w.ensures.0 (ascii _ _ _ _ _ c.if-need-eq0.true c.if-b-lt128.true) l.invariant.small c.put_code-n.ensures
+pub returns-in_err-value : goal.returns-in_err-value
+returns-in_err-value c = rw c.from_residual.ensures (faults c.loop-b.invariant c.loop-b-test.true refl c.in_err-value.ensures)
 
-pub returns-then-l-eq0 : goal.returns-then-l-eq0
-returns-then-l-eq0 c =
-    let l = c.loop-i in
-    let t = c.loop-i-test.true in
-    let w = c.as_number-b in
-    let r = c.first_byte-l in
-    rw c.told.ensures (faults l.invariant t w.ensures.0 (no_lead w.result r.result r.ensures _ _ _ _ c.if-need-eq0.true c.if-b-lt128.false c.if-l-eq0.true))
-
-pub loop-i-preserved-else-b-lt128 : goal.loop-i-preserved-else-b-lt128
-loop-i-preserved-else-b-lt128 c =
-    let l = c.loop-i in
-    let t = c.loop-i-test.true in
-    let w = c.as_number-b in
-    let r = c.first_byte-l in
-    stays l.invariant t w.ensures.0 (begun_lead w.result r.result r.ensures _ _ _ _ c.if-need-eq0.true c.if-b-lt128.false c.if-l-eq0.false) (starts_lead w.result r.result r.ensures w.ensures.1)
-
-pub returns-then-not-is_tail : goal.returns-then-not-is_tail
-returns-then-not-is_tail c =
-    let l = c.loop-i in
-    let t = c.loop-i-test.true in
-    let w = c.as_number-b in
-    rw c.told-then-not-is_tail.ensures (faults l.invariant t w.ensures.0 (no_next _ _ _ l.invariant.small c.if-need-eq0.false (sym c.is_tail.ensures ∙ c.if-not-is_tail.true)))
-
-pub overflow_mul-acc : goal.overflow_mul-acc
-overflow_mul-acc c = omega (arith, fits c.loop-i.invariant.small c.if-need-eq0.false)
-
-pub overflow_sub-acc : goal.overflow_sub-acc
-overflow_sub-acc c = (in_range 0x80 0xBF c.as_number-b.result (sym c.is_tail.ensures ∙ c.if-not-is_tail.false)).0
-
-pub overflow_add-acc : goal.overflow_add-acc
-overflow_add-acc c =
-    let r = (in_range 0x80 0xBF c.as_number-b.result (sym c.is_tail.ensures ∙ c.if-not-is_tail.false)) in
-    omega (arith, r.1, fits c.loop-i.invariant.small c.if-need-eq0.false)
-
-pub returns-then-not-is_proper : goal.returns-then-not-is_proper
-returns-then-not-is_proper c =
-    let l = c.loop-i in
-    let t = c.loop-i-test.true in
-    let w = c.as_number-b in
-    let r = in_range 0x80 0xBF w.result (sym c.is_tail.ensures ∙ c.if-not-is_tail.false) in
-    rw c.told-then-not-is_proper.ensures (faults l.invariant t w.ensures.0 (unfit _ _ _ r.0 r.1 l.invariant.small c.if-need-eq0.false c.if-need-eq0-2.true (sym c.is_proper.ensures ∙ c.if-not-is_proper.true)))
-
-pub loop-i-preserved-then-need-eq0-2 : goal.loop-i-preserved-then-need-eq0-2
-loop-i-preserved-then-need-eq0-2 c =
-    let l = c.loop-i in
-    let t = c.loop-i-test.true in
-    let w = c.as_number-b in
-    let z = c.if-need-eq0.false in
-    let r = in_range 0x80 0xBF w.result (sym c.is_tail.ensures ∙ c.if-not-is_tail.false) in
-    puts_one l.invariant t w.ensures.0 (ended _ _ _ r.0 r.1 l.invariant.small z c.if-need-eq0-2.true (sym c.is_proper.ensures ∙ c.if-not-is_proper.false)) (grows l.invariant.small z (omega (arith, r.1))) c.put_code-n-then-need-eq0-2.ensures
-
-pub loop-i-preserved : goal.loop-i-preserved
-loop-i-preserved c =
-    let l = c.loop-i in
-    let t = c.loop-i-test.true in
-    let w = c.as_number-b in
-    let z = c.if-need-eq0.false in
-    let r = in_range 0x80 0xBF w.result (sym c.is_tail.ensures ∙ c.if-not-is_tail.false) in
-    stays l.invariant t w.ensures.0 (onward _ _ _ r.0 r.1 l.invariant.small z c.if-need-eq0-2.false) (grows l.invariant.small z (omega (arith, r.1)))
+pub loop-b-preserved : goal.loop-b-preserved
+loop-b-preserved c =
+    let k = c.loop-b.invariant in
+    let t = c.loop-b-test.true in
+    let s = c.in_ok-value.ensures in
+    elim c.match-branch-2.branch [
+      | in-More w ↦ rw (w.out-is, w.begun-is, w.count-is) (stays k t refl (rw w.in-More.is at s))
+      | in-Code w ↦ rw (w.out-is, w.begun-is, w.count-is) (puts_one k t refl (rw w.in-Code.is at s) w.put_code-count.ensures)
+    ]
 
 pub returns : goal.returns
-returns c = rw c.told-2.ensures (ends c.loop-i.invariant c.loop-i-test.false)
+returns c = rw c.then_some.ensures (ends c.loop-b.invariant c.loop-b-test.false _ c.is_none.ensures)

@@ -1,41 +1,23 @@
--- `first_byte` meets its contract: each return rewrites with the tests that led there.
+-- `first_byte` meets its contract: each arm is one row of the table, or lies in none.
 -- Assumes nothing.
-use mathlib.Core.Path.{◌≡◌}
-use Prim.Native.Nat.{◌-◌}
 use native.Mathlib.Omega.{arith}
-use borrow.Author.Tests.{lt-ltb, le-ltb}
+use Rattle.utf8.proofs.Decoding.{ascii, two_bytes, three_bytes, four_bytes, low, high}
 use Rattle.utf8.proofs.first_byte.Goals as goal
 
-pub returns-then-b-lt192 : goal.returns-then-b-lt192
-returns-then-b-lt192 c =
-    let b = c.args.b in
-    let z : 0 ≡ b - 0xC0 = omega arith in
-    record { need = simp (lt-ltb b 0xC0 c.if-b-lt192.true); least = simp (lt-ltb b 0xE0 (omega arith)); bits = simp (lt-ltb b 0xE0 (omega arith)) z }
+pub returns-in-0-to-127 : goal.returns-in-0-to-127
+returns-in-0-to-127 c = rw c.from-v.ensures (ascii c.args.b (omega arith))
 
-pub returns-then-b-lt224 : goal.returns-then-b-lt224
-returns-then-b-lt224 c =
-    let b = c.args.b in
-    let p = c.if-b-lt192.false in
-    let q = lt-ltb b 0xE0 c.if-b-lt224.true in
-    record { need = simp (le-ltb b 0xC0 p, q); least = simp q; bits = simp q }
+pub returns-in-192-to-223 : goal.returns-in-192-to-223
+returns-in-192-to-223 c = rw c.from-v.ensures (two_bytes c.args.b (omega arith) (omega arith))
 
-pub returns-then-b-lt240 : goal.returns-then-b-lt240
-returns-then-b-lt240 c =
-    let b = c.args.b in
-    let p = le-ltb b 0xE0 c.if-b-lt224.false in
-    let q = lt-ltb b 0xF0 c.if-b-lt240.true in
-    record { need = simp (le-ltb b 0xC0 c.if-b-lt192.false, p, q); least = simp (p, q); bits = simp (p, q) }
+pub returns-in-224-to-239 : goal.returns-in-224-to-239
+returns-in-224-to-239 c = rw c.from-v.ensures (three_bytes c.args.b (omega arith) (omega arith))
 
-pub returns-then-b-lt248 : goal.returns-then-b-lt248
-returns-then-b-lt248 c =
-    let b = c.args.b in
-    let p = le-ltb b 0xE0 c.if-b-lt224.false in
-    let q = le-ltb b 0xF0 c.if-b-lt240.false in
-    record { need = simp (le-ltb b 0xC0 c.if-b-lt192.false, p, q, lt-ltb b 0xF8 c.if-b-lt248.true); least = simp (p, q); bits = simp (p, q) }
+pub returns-in-240-to-247 : goal.returns-in-240-to-247
+returns-in-240-to-247 c = rw c.from-v.ensures (four_bytes c.args.b (omega arith) (omega arith))
 
-pub returns : goal.returns
-returns c =
-    let b = c.args.b in
-    let p = le-ltb b 0xE0 c.if-b-lt224.false in
-    let q = le-ltb b 0xF0 c.if-b-lt240.false in
-    record { need = simp (le-ltb b 0xC0 c.if-b-lt192.false, p, q, le-ltb b 0xF8 c.if-b-lt248.false); least = simp (p, q); bits = simp (p, q) }
+pub returns-in_default : goal.returns-in_default
+returns-in_default c = low c.args.b (omega arith) (omega arith)
+
+pub returns-in_default-2 : goal.returns-in_default-2
+returns-in_default-2 c = high c.args.b (omega arith)

@@ -1,8 +1,8 @@
--- `is_well_formed` meets its contract: it hands on what the pass tells.
+-- `is_well_formed` meets its contract: the pass counts where there is no fault.
 -- Assumes nothing.
-use mathlib.Core.Path.{ap}
-use Rattle.utf8.specs.declared.Decoded.{Decoded}
+use mathlib.Core.Path.{◌∙◌}
+use Rattle.utf8.proofs.Decoding.{some_well}
 use Rattle.utf8.proofs.is_well_formed.Goals as goal
 
 pub returns : goal.returns
-returns c = ap (λ (x : Decoded). x.ok) c.decode_up_to_fault-seen.ensures.result
+returns c = c.is_some.ensures ∙ some_well _ c.decode_up_to_fault.ensures.result

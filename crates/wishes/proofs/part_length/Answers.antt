@@ -1,31 +1,39 @@
-use mathlib.Core.Path.{◌≡◌, refl, sym, ◌∙◌}
-use mathlib.Core.Bool.{true, false}
-use Prim.Native.Nat.{ℕ}
+-- `part_length` meets its contract: a separator is what a period replaces.
+-- Assumes nothing.
+use mathlib.Core.Path.{◌≡◌, refl, sym, ap, ◌∙◌}
+use mathlib.Core.Bool.{Bool, true, false, cond}
+use Prim.Native.Nat.{ℕ, ◌≤◌}
 use native.Mathlib.Omega.{arith}
-use borrow.Author.Tests.{eq-eqb, ne_eqb}
-use Rattle.lists.proofs.Scan.{first_here, first_on, first_end}
+use lib.Dec.{eqb, ltb}
+use lib.ListN.{length}
+use borrow.Author.Tests.{ltb-false}
+use Rattle.std.proofs.Common.{Option, Some, None, rules, tests}
+use Rattle.std.specs.Option.{unwrap_or}
+use Rattle.std.proofs.lemmas.Iterator.{YieldsList-from_slice}
+use Rattle.std.proofs.lemmas.Iterator.Search.{position_from_yields_List}
+use Rattle.lists.proofs.Chains.{position_is}
+use Rattle.lists.proofs.Laws.{index_bound}
 use Rattle.characters.specs.Characters.{separator}
 use Rattle.characters.specs.Replace.{replace}
 use Rattle.characters.proofs.Separators.{separator_is}
 use Rattle.wishes.specs.Wishes.{part_length}
-use borrow.Author.Rules.{rules}
 use Rattle.wishes.proofs.part_length.Goals as goal
 
-separates : (x : ℕ) {r : ℕ} → r ≡ replace x → r ≡ 0x2E → true ≡ separator x
-separates x e p = sym (separator_is x ∙ eq-eqb (replace x) 0x2E (sym e ∙ p))
+-- the index that is found, or the length
+or_length : (k n : ℕ) → k ≤ n → unwrap_or (cond (ltb k n) (Some k) None) n ≡ k
+or_length k n h = go (ltb k n) refl
+  where
+    go : (b : Bool) → ltb k n ≡ b → unwrap_or (cond b (Some k) None) n ≡ k
+    go true q = refl
+    go false q = omega (arith, ltb-false k n q)
 
-goes_on : (x : ℕ) {r : ℕ} → r ≡ replace x → (r ≡ 0x2E → ⊥) → false ≡ separator x
-goes_on x e n = sym (separator_is x ∙ ne_eqb (replace x) 0x2E (λ p. n (e ∙ p)))
-
-pub loop-i-init : goal.loop-i-init
-unfolding part_length
-loop-i-init c = search rules
-
-pub returns-then-replaced-eq-PERIOD : goal.returns-then-replaced-eq-PERIOD
-returns-then-replaced-eq-PERIOD c = first_here separator _ _ (omega arith) _ c.loop-i.invariant (separates _ c.replaced.ensures c.if-replaced-eq-PERIOD.true) refl
-
-pub loop-i-preserved : goal.loop-i-preserved
-loop-i-preserved c = first_on separator _ _ (omega arith) _ c.loop-i.invariant (goes_on _ c.replaced.ensures c.if-replaced-eq-PERIOD.false) refl
+separates : (x r : ℕ) → r ≡ replace x → eqb r 0x2E ≡ separator x
+separates x r e = rw e (sym (separator_is x))
 
 pub returns : goal.returns
-returns c = first_end separator _ c.loop-i.i _ (omega arith) c.loop-i.invariant
+unfolding part_length
+returns c =
+    let t = c.args.text.now in
+    let p = position_from_yields_List separator _ _ c.position.result c.position.ensures.ran (YieldsList-from_slice _ c.iter.ensures.rest) (λ x b q k. search (rules, tests, separates)) in
+    c.unwrap_or.ensures ∙ ap (λ (o : Option ℕ). unwrap_or o (length t)) p ∙ or_length _ _ (rw (position_is separator t) (index_bound separator t))
+    ∙ position_is separator t

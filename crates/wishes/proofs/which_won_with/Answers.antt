@@ -4,4 +4,4 @@ use Rattle.wishes.proofs.Choosing.{wished_is}
 use Rattle.wishes.proofs.which_won_with.Goals as goal
 
 pub returns : goal.returns
-returns c = wished_is _ _ _ c.checked_alone-one.ensures c.checked_alone-two.ensures c.won_by-won.ensures
+returns c = wished_is _ _ _ c.checked_alone-one.ensures c.checked_alone-two.ensures c.won_by.ensures

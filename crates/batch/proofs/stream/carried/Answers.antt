@@ -1,22 +1,15 @@
-use mathlib.Core.Path.{refl, sym, ◌∙◌}
-use native.Mathlib.Omega.{arith}
-use Rattle.batch.proofs.Turns.{push_short, push_over, push_end}
+-- `carried` meets its contract: the bytes that fit are copied to where the line goes on, and where some do not fit the mark says so.
+-- Assumes nothing.
+use Rattle.std.proofs.Common.{rules, ◌≡◌, length}
+use Rattle.batch.proofs.Turns.{carries_all, carries_over}
 use Rattle.batch.proofs.stream.carried.Goals as goal
 
-pub loop-i-init : goal.loop-i-init
-loop-i-init c = (omega arith, refl)
+pub returns-then-fitting-piece : goal.returns-then-fitting-piece
+returns-then-fitting-piece c =
+    let long : length c.args.line.held ≡ 1024 = search rules in
+    carries_over c.args.line c.args.piece.now long c.min-start.ensures c.min-fitting.ensures c.copy_from_slice.ensures.after c.if-fitting-piece.true
 
-pub loop-i-preserved-then-count-lt-LONGEST_LINE : goal.loop-i-preserved-then-count-lt-LONGEST_LINE
-loop-i-preserved-then-count-lt-LONGEST_LINE c =
-    let l = c.loop-i in
-    (omega arith, l.invariant.1 ∙ push_short _ (record { held = l.held; n = l.count }) l.i c.loop-i-test.true c.if-count-lt-LONGEST_LINE.true)
-
-pub loop-i-preserved : goal.loop-i-preserved
-loop-i-preserved c =
-    let l = c.loop-i in
-    (omega arith, l.invariant.1 ∙ push_over _ (record { held = l.held; n = l.count }) l.i c.loop-i-test.true c.if-count-lt-LONGEST_LINE.false)
-
-pub returns : goal.returns
-returns c =
-    let l = c.loop-i in
-    sym (l.invariant.1 ∙ push_end _ _ c.loop-i-test.false)
+pub returns-else-fitting-piece : goal.returns-else-fitting-piece
+returns-else-fitting-piece c =
+    let long : length c.args.line.held ≡ 1024 = search rules in
+    carries_all c.args.line c.args.piece.now long c.min-start.ensures c.min-fitting.ensures c.copy_from_slice.ensures.after c.if-fitting-piece.false

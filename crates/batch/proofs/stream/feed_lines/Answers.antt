@@ -6,14 +6,9 @@ use borrow.Author.Rules.{rules}
 use Rattle.batch.proofs.stream.feed_lines.Goals as goal
 
 pub returns-then-at-eq0 : goal.returns-then-at-eq0
-returns-then-at-eq0 c =
-    let scanned = c in
-    let start = scanned in
-    lines_none start.args.line start.args.piece.now start.requires.1 scanned.scan-scanned.ensures c.if-at-eq0.true c.carried.ensures
+returns-then-at-eq0 c = lines_none c.args.line c.args.piece.now c.requires.1 c.scan-at.ensures c.if-at-eq0.true c.carried.ensures
 
 pub returns : goal.returns
 returns c =
-    let scanned = c in
-    let start = scanned in
-    lines_rest start.args.line start.args.piece.now start.requires.1 scanned.scan-scanned.ensures (long_line _) (search rules)
-    start.requires.0 c.if-at-eq0.false c.rest.ensures
+    lines_rest c.args.line c.args.piece.now c.requires.1 c.scan-at.ensures (long_line _) (search rules)
+    c.requires.0 c.if-at-eq0.false c.rest.ensures

@@ -9,9 +9,9 @@ use Rattle.batch.proofs.stream.finish_with.Goals as goal
 pub returns-then-line-eq0 : goal.returns-then-line-eq0
 returns-then-line-eq0 c =
     let a = c.args in
-    end_none (answer_to (today_with a.kanji.now)) bad_answer a.line a.out.now (omega arith)
+    rw c.then_some.ensures (end_none (answer_to (today_with a.kanji.now)) bad_answer a.line a.out.now (omega arith))
 
 pub returns : goal.returns
 returns c =
     let a = c.args in
-    end_last (answer_to (today_with a.kanji.now)) bad_answer a.line a.out.now c.if-line-eq0.false c.close-last.ensures
+    end_last (answer_to (today_with a.kanji.now)) bad_answer a.line a.out.now _ c.if-line-eq0.false c.close.ensures

@@ -7,8 +7,8 @@ use Rattle.answer.specs.Answer.{answer_to, bad_answer}
 use Rattle.batch.proofs.Turns.{Kept}
 use Rattle.batch.proofs.stream.scan.Given as goal
 
-abbrev pub invariant-loop-out : goal.invariant-loop-out
-invariant-loop-out l = Kept (answer_to (today_with l.kanji)) bad_answer l.piece l.initial.out l.out l.at l.wrote
+abbrev pub invariant-loop-line : goal.invariant-loop-line
+invariant-loop-line l = Kept (answer_to (today_with l.kanji)) bad_answer l.piece l.initial.out l.out l.at l.length
 
-abbrev pub decreases-loop-out : goal.decreases-loop-out
-decreases-loop-out l = length l.piece - l.at
+abbrev pub decreases-loop-line : goal.decreases-loop-line
+decreases-loop-line l = length l.piece - l.at

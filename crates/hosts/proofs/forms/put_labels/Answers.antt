@@ -1,40 +1,60 @@
 use mathlib.Core.Path.{◌∙◌}
+use native.Mathlib.Numerals.{add-one}
 use native.Mathlib.Omega.{arith}
-use Rattle.hosts.proofs.Putting.{hosts_all, host_bounds, host_length, ready, host_last, host_room, host_on}
+use lib.ListN.{length}
+use Rattle.std.proofs.Common.{rules, tests}
+use Rattle.std.proofs.lemmas.List.{length_push}
+use Rattle.std.proofs.lemmas.Iterator.Consumers.{YieldsList-turn, YieldsList-end}
+use Rattle.rules.specs.Editions.{permits}
+use Rattle.hosts.proofs.Putting.{Placing, hosts_all, host_first, host_room, host_next, ready, host_on, host_end}
+use Rattle.hosts.proofs.Splitting.{in_order, at_turn, at_last}
 use Rattle.hosts.proofs.forms.put_labels.Goals as goal
+use Rattle.hosts.proofs.forms.put_labels.Goals.{then-i-gt0, else-i-gt0}
 
-pub loop-from-init : goal.loop-from-init
-loop-from-init c = hosts_all _ _ _ c.requires
-
-pub offset_bounds-form-from : goal.offset_bounds-form-from
-offset_bounds-form-from c = let b = host_bounds _ c.loop-from.invariant _ c.label_end-end.ensures in omega (arith, c.loop-from.invariant.going.within)
-
-pub slice_bounds-put_label-count : goal.slice_bounds-put_label-count
-slice_bounds-put_label-count c = let b = host_bounds _ c.loop-from.invariant _ c.label_end-end.ensures in omega arith
-
-pub slice_bounds-put_label-start : goal.slice_bounds-put_label-start
-slice_bounds-put_label-start c = let b = host_bounds _ c.loop-from.invariant _ c.label_end-end.ensures in omega arith
-
-pub slice_bounds-put_label-end : goal.slice_bounds-put_label-end
-slice_bounds-put_label-end c = let b = host_bounds _ c.loop-from.invariant _ c.label_end-end.ensures in omega arith
-
-pub put_label-at-requires : goal.put_label-at-requires
-put_label-at-requires c = ready _ c.loop-from.invariant _ c.label_end-end.ensures
-
-pub shape_of-out-then-end-form : goal.shape_of-out-then-end-form
-shape_of-out-then-end-form c = c.put_label-at.auto.out ∙ host_length _ c.loop-from.invariant _ c.label_end-end.ensures
-
-pub returns-then-end-form : goal.returns-then-end-form
-returns-then-end-form c = host_last _ c.loop-from.invariant _ c.label_end-end.ensures c.put_label-at.ensures c.if-end-form.true
+pub loop-i-init : goal.loop-i-init
+loop-i-init c = hosts_all (permits c.args.edition.now) c.args.form.now _ c.requires
 
 pub bounds-out-at : goal.bounds-out-at
-bounds-out-at c = host_room _ c.loop-from.invariant _ c.label_end-end.ensures c.put_label-at.ensures c.if-end-form.false
+bounds-out-at c =
+    let s = c.split.ensures in
+    let e = c.enumerate-i-items.ensures in
+    let t = at_turn c.args.form.now _ _ _
+    (YieldsList-turn (in_order c.args.form.now c.into_iter-i-iterator.ensures.into_iter_gives e.source e.count s.rest s.done s.closure (λ x b q k. search (rules, tests)))
+    c.loop-i.yielded _ c.loop-i.yielded_by _ _ (c.in-Some.i, c.in-Some.label) c.in-Some.is c.next.ensures.steps) in
+    host_room (permits c.args.edition.now) c.args.form.now c.loop-i.invariant t c.if-i-gt0.true
 
-pub overflow_add-at : goal.overflow_add-at
-overflow_add-at c = omega (arith, host_room _ c.loop-from.invariant _ c.label_end-end.ensures c.put_label-at.ensures c.if-end-form.false, c.put_label-at.auto.out, host_length _ c.loop-from.invariant _ c.label_end-end.ensures)
+pub put_label-at-requires : goal.put_label-at-requires
+put_label-at-requires c =
+    let s = c.split.ensures in
+    let e = c.enumerate-i-items.ensures in
+    let t = at_turn c.args.form.now _ _ _
+    (YieldsList-turn (in_order c.args.form.now c.into_iter-i-iterator.ensures.into_iter_gives e.source e.count s.rest s.done s.closure (λ x b q k. search (rules, tests)))
+    c.loop-i.yielded _ c.loop-i.yielded_by _ _ (c.in-Some.i, c.in-Some.label) c.in-Some.is c.next.ensures.steps) in
+    let p : Placing (permits c.args.edition.now) c.args.form.now c.args.out.now c.if-i-gt0.out (length c.loop-i.yielded) c.if-i-gt0.at c.in-Some.label.now =
+    elim c.if-i-gt0.branch [
+      | then-i-gt0 w ↦ rw (w.out-is, w.at-is) (host_next (permits c.args.edition.now) c.args.form.now c.loop-i.invariant t w.if-i-gt0.true)
+      | else-i-gt0 w ↦ rw (w.out-is, w.at-is) (host_first (permits c.args.edition.now) c.args.form.now c.loop-i.invariant t (omega (arith, w.if-i-gt0.false)))
+    ] in
+    ready (permits c.args.edition.now) c.args.form.now p
 
-pub loop-from-smaller : goal.loop-from-smaller
-loop-from-smaller c = let b = host_bounds _ c.loop-from.invariant _ c.label_end-end.ensures in omega arith
+pub loop-i-preserved : goal.loop-i-preserved
+loop-i-preserved c =
+    let s = c.split.ensures in
+    let e = c.enumerate-i-items.ensures in
+    let t = at_turn c.args.form.now _ _ _
+    (YieldsList-turn (in_order c.args.form.now c.into_iter-i-iterator.ensures.into_iter_gives e.source e.count s.rest s.done s.closure (λ x b q k. search (rules, tests)))
+    c.loop-i.yielded _ c.loop-i.yielded_by _ _ (c.in-Some.i, c.in-Some.label) c.in-Some.is c.next.ensures.steps) in
+    let p : Placing (permits c.args.edition.now) c.args.form.now c.args.out.now c.if-i-gt0.out (length c.loop-i.yielded) c.if-i-gt0.at c.in-Some.label.now =
+    elim c.if-i-gt0.branch [
+      | then-i-gt0 w ↦ rw (w.out-is, w.at-is) (host_next (permits c.args.edition.now) c.args.form.now c.loop-i.invariant t w.if-i-gt0.true)
+      | else-i-gt0 w ↦ rw (w.out-is, w.at-is) (host_first (permits c.args.edition.now) c.args.form.now c.loop-i.invariant t (omega (arith, w.if-i-gt0.false)))
+    ] in
+    host_on (permits c.args.edition.now) c.args.form.now p c.put_label-at.ensures (length_push c.loop-i.yielded _ ∙ add-one _)
 
-pub loop-from-preserved : goal.loop-from-preserved
-loop-from-preserved c = host_on _ c.loop-from.invariant _ c.label_end-end.ensures c.put_label-at.ensures c.if-end-form.false
+pub returns : goal.returns
+returns c =
+    let s = c.split.ensures in
+    let e = c.enumerate-i-items.ensures in
+    let d = YieldsList-end (in_order c.args.form.now c.into_iter-i-iterator.ensures.into_iter_gives e.source e.count s.rest s.done s.closure (λ x b q k. search (rules, tests)))
+    c.loop-i.yielded _ c.loop-i.yielded_by _ _ c.in-None.is c.next.ensures.steps in
+    host_end (permits c.args.edition.now) c.args.form.now _ _ c.loop-i.invariant (at_last _ _ d.1)

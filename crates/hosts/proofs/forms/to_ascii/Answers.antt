@@ -2,6 +2,7 @@
 -- Assumes nothing.
 use Rattle.rules.specs.Permits.{Permits}
 use Rattle.hosts.specs.Hosts.{HostForms}
+use Rattle.refusals.specs.Refusals.{filled}
 use Rattle.rules.proofs.Editions.{lending}
 use Rattle.hosts.proofs.forms.to_ascii.Goals as goal
 
@@ -9,4 +10,4 @@ pub returns : goal.returns
 returns c =
     let a = c.args in
     let r = c.to_ascii_with in
-    lending (λ (P : Permits). HostForms P a.text.now a.out.now r.new.out r.result) 4 c.kanji_bits-kanji.ensures r.ensures
+    lending (λ (P : Permits). HostForms P a.text.now a.out.now r.new.out (filled r.result)) 4 c.kanji_bits-kanji.ensures r.ensures

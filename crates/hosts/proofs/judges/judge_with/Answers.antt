@@ -4,4 +4,4 @@ use Rattle.hosts.proofs.Judging.{as_judged}
 use Rattle.hosts.proofs.judges.judge_with.Goals as goal
 
 pub returns : goal.returns
-returns c = as_judged _ _ c.judge_into-ruled.ensures
+returns c = as_judged _ _ c.judge_into-said.ensures

@@ -1,42 +1,75 @@
+use mathlib.Core.Path.{refl, sym, ◌∙◌}
+use native.Mathlib.Numerals.{add-one}
 use native.Mathlib.Omega.{arith}
-use Rattle.hosts.proofs.Counting.{counts, count_bounds, this_writable, count_refused, at_most, count_last, count_on}
+use Rattle.std.proofs.Common.{rules, tests}
+use Rattle.std.proofs.lemmas.List.{length_push}
+use Rattle.std.proofs.lemmas.Iterator.Consumers.{YieldsList-turn, YieldsList-end}
+use Rattle.rules.specs.Editions.{permits}
+use Rattle.hosts.proofs.Counting.{counts, this_writable, count_refused, at_most, many, count_on, total_is, count_end}
+use Rattle.hosts.proofs.Splitting.{in_order, at_turn, at_last}
 use Rattle.hosts.proofs.labelled.coded_rule.Goals as goal
 
-pub loop-octets-init : goal.loop-octets-init
-loop-octets-init c = counts _ _ c.requires.0
+pub loop-i-init : goal.loop-i-init
+loop-i-init c = counts (permits c.args.edition.now) c.args.form.now c.requires.0
 
-pub offset_bounds-form-from : goal.offset_bounds-form-from
-offset_bounds-form-from c = let b = count_bounds _ c.loop-octets.invariant _ c.label_end-end.ensures in omega (arith, c.requires.1)
+pub octets_of-requires : goal.octets_of-requires
+octets_of-requires c =
+    let s = c.split.ensures in
+    let e = c.enumerate-i-items.ensures in
+    let t = at_turn c.args.form.now _ _ _
+    (YieldsList-turn (in_order c.args.form.now c.into_iter-i-iterator.ensures.into_iter_gives e.source e.count s.rest s.done s.closure (λ x b q k. search (rules, tests)))
+    c.loop-i.yielded _ c.loop-i.yielded_by _ _ (c.in-Some.i, c.in-Some.label) c.in-Some.is c.next.ensures.steps) in
+    this_writable (permits c.args.edition.now) c.args.form.now c.loop-i.invariant t
 
-pub slice_bounds-octets_of-count : goal.slice_bounds-octets_of-count
-slice_bounds-octets_of-count c = let b = count_bounds _ c.loop-octets.invariant _ c.label_end-end.ensures in omega arith
-
-pub slice_bounds-octets_of-start : goal.slice_bounds-octets_of-start
-slice_bounds-octets_of-start c = let b = count_bounds _ c.loop-octets.invariant _ c.label_end-end.ensures in omega arith
-
-pub slice_bounds-octets_of-end : goal.slice_bounds-octets_of-end
-slice_bounds-octets_of-end c = let b = count_bounds _ c.loop-octets.invariant _ c.label_end-end.ensures in omega arith
-
-pub octets_of-octets-requires : goal.octets_of-octets-requires
-octets_of-octets-requires c = this_writable _ c.loop-octets.invariant _ c.label_end-end.ensures
-
-pub returns-then-not-octets : goal.returns-then-not-octets
-returns-then-not-octets c = count_refused _ c.loop-octets.invariant _ c.label_end-end.ensures c.octets_of-octets.ensures c.if-not-octets.true c.refused.ensures
+pub returns-in_default : goal.returns-in_default
+returns-in_default c =
+    let s = c.split.ensures in
+    let e = c.enumerate-i-items.ensures in
+    let t = at_turn c.args.form.now _ _ _
+    (YieldsList-turn (in_order c.args.form.now c.into_iter-i-iterator.ensures.into_iter_gives e.source e.count s.rest s.done s.closure (λ x b q k. search (rules, tests)))
+    c.loop-i.yielded _ c.loop-i.yielded_by _ _ (c.in-Some.i, c.in-Some.label) c.in-Some.is c.next.ensures.steps) in
+    rw c.at.ensures (count_refused (permits c.args.edition.now) c.args.form.now c.loop-i.invariant t (sym c.in_default.is ∙ c.octets_of.ensures) refl)
 
 pub overflow_add-total : goal.overflow_add-total
-overflow_add-total c = omega (arith, at_most _ c.loop-octets.invariant _ c.label_end-end.ensures c.octets_of-octets.ensures c.if-not-octets.false, c.loop-octets.invariant.seek.index, c.loop-octets.invariant.seek.within, c.requires.1)
+overflow_add-total c =
+    let s = c.split.ensures in
+    let e = c.enumerate-i-items.ensures in
+    let t = at_turn c.args.form.now _ _ _
+    (YieldsList-turn (in_order c.args.form.now c.into_iter-i-iterator.ensures.into_iter_gives e.source e.count s.rest s.done s.closure (λ x b q k. search (rules, tests)))
+    c.loop-i.yielded _ c.loop-i.yielded_by _ _ (c.in-Some.i, c.in-Some.label) c.in-Some.is c.next.ensures.steps) in
+    omega (arith, at_most (permits c.args.edition.now) c.args.form.now c.loop-i.invariant t (sym c.in-Some-octets_of.is ∙ c.octets_of.ensures))
 
-pub returns-then-end-form : goal.returns-then-end-form
-returns-then-end-form c = count_last _ c.loop-octets.invariant _ c.label_end-end.ensures c.octets_of-octets.ensures c.if-not-octets.false c.if-end-form.true c.total_rule.ensures
+pub overflow_add-total-in-loop-i : goal.overflow_add-total-in-loop-i
+overflow_add-total-in-loop-i c =
+    let s = c.split.ensures in
+    let e = c.enumerate-i-items.ensures in
+    let t = at_turn c.args.form.now _ _ _
+    (YieldsList-turn (in_order c.args.form.now c.into_iter-i-iterator.ensures.into_iter_gives e.source e.count s.rest s.done s.closure (λ x b q k. search (rules, tests)))
+    c.loop-i.yielded _ c.loop-i.yielded_by _ _ (c.in-Some.i, c.in-Some.label) c.in-Some.is c.next.ensures.steps) in
+    let o = sym c.in-Some-octets_of.is ∙ c.octets_of.ensures in
+    omega (arith, at_most (permits c.args.edition.now) c.args.form.now c.loop-i.invariant t o, many (permits c.args.edition.now) c.args.form.now c.loop-i.invariant t o, c.loop-i.invariant.bound, c.requires.1)
 
-pub overflow_add-total-in-loop-octets : goal.overflow_add-total-in-loop-octets
-overflow_add-total-in-loop-octets c = omega (arith, at_most _ c.loop-octets.invariant _ c.label_end-end.ensures c.octets_of-octets.ensures c.if-not-octets.false, c.loop-octets.invariant.seek.index, c.loop-octets.invariant.seek.within, c.requires.1)
+pub loop-i-preserved : goal.loop-i-preserved
+loop-i-preserved c =
+    let s = c.split.ensures in
+    let e = c.enumerate-i-items.ensures in
+    let t = at_turn c.args.form.now _ _ _
+    (YieldsList-turn (in_order c.args.form.now c.into_iter-i-iterator.ensures.into_iter_gives e.source e.count s.rest s.done s.closure (λ x b q k. search (rules, tests)))
+    c.loop-i.yielded _ c.loop-i.yielded_by _ _ (c.in-Some.i, c.in-Some.label) c.in-Some.is c.next.ensures.steps) in
+    count_on (permits c.args.edition.now) c.args.form.now c.loop-i.invariant t (sym c.in-Some-octets_of.is ∙ c.octets_of.ensures) (length_push c.loop-i.yielded _ ∙ add-one _)
 
-pub overflow_add-i : goal.overflow_add-i
-overflow_add-i c = omega (arith, c.loop-octets.invariant.seek.index, c.loop-octets.invariant.seek.within)
+pub overflow_sub-total : goal.overflow_sub-total
+overflow_sub-total c =
+    let s = c.split.ensures in
+    let e = c.enumerate-i-items.ensures in
+    let d = YieldsList-end (in_order c.args.form.now c.into_iter-i-iterator.ensures.into_iter_gives e.source e.count s.rest s.done s.closure (λ x b q k. search (rules, tests)))
+    c.loop-i.yielded _ c.loop-i.yielded_by _ _ c.in-None.is c.next.ensures.steps in
+    omega (arith, total_is (permits c.args.edition.now) c.args.form.now _ _ c.loop-i.invariant (at_last _ _ d.1))
 
-pub loop-octets-smaller : goal.loop-octets-smaller
-loop-octets-smaller c = let b = count_bounds _ c.loop-octets.invariant _ c.label_end-end.ensures in omega arith
-
-pub loop-octets-preserved : goal.loop-octets-preserved
-loop-octets-preserved c = count_on _ c.loop-octets.invariant _ c.label_end-end.ensures c.octets_of-octets.ensures c.if-not-octets.false c.if-end-form.false
+pub returns : goal.returns
+returns c =
+    let s = c.split.ensures in
+    let e = c.enumerate-i-items.ensures in
+    let d = YieldsList-end (in_order c.args.form.now c.into_iter-i-iterator.ensures.into_iter_gives e.source e.count s.rest s.done s.closure (λ x b q k. search (rules, tests)))
+    c.loop-i.yielded _ c.loop-i.yielded_by _ _ c.in-None.is c.next.ensures.steps in
+    count_end (permits c.args.edition.now) c.args.form.now _ _ c.loop-i.invariant (at_last _ _ d.1) c.total_rule.ensures

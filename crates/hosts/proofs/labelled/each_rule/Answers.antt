@@ -1,34 +1,38 @@
-use native.Mathlib.Omega.{arith}
-use Rattle.rules.proofs.Cuts.{ended}
-use Rattle.hosts.proofs.Walking.{asks_all, ask_stops, ask_last, ask_on}
+use mathlib.Core.Path.{refl, ◌∙◌}
+use native.Mathlib.Numerals.{add-one}
+use Rattle.std.proofs.Common.{rules, tests}
+use Rattle.std.proofs.lemmas.List.{length_push}
+use Rattle.std.proofs.lemmas.Iterator.Consumers.{YieldsList-turn, YieldsList-end}
+use Rattle.std.proofs.lemmas.Result.{err_from_is_err_and}
+use Rattle.refusals.proofs.Once.{number_not_0}
+use Rattle.rules.specs.Editions.{permits}
+use Rattle.hosts.proofs.Splitting.{in_order, at_turn, at_last}
+use Rattle.hosts.proofs.Walking.{ask_stops, ask_on, ask_end}
 use Rattle.hosts.proofs.labelled.each_rule.Goals as goal
 
-pub loop-rule-init : goal.loop-rule-init
-loop-rule-init c = asks_all _ _
+pub returns-in_err-label_rule_with : goal.returns-in_err-label_rule_with
+returns-in_err-label_rule_with c =
+    let s = c.split.ensures in
+    let e = c.enumerate-i-items.ensures in
+    let t = at_turn c.args.form.now _ _ _
+    (YieldsList-turn (in_order c.args.form.now c.into_iter-i-iterator.ensures.into_iter_gives e.source e.count s.rest s.done s.closure (λ x b q k. search (rules, tests)))
+    c.loop-i.yielded _ c.loop-i.yielded_by _ _ (c.in-Some.i, c.in-Some.label) c.in-Some.is c.next.ensures.steps) in
+    let p = err_from_is_err_and c.from_residual.result c.from_residual.ensures.1 in
+    rw (p.1, p.2) (ask_stops (permits c.args.edition.now) _ c.loop-i.invariant t c.in_err-label_rule_with.ensures (number_not_0 _))
 
-pub offset_bounds-form-from : goal.offset_bounds-form-from
-offset_bounds-form-from c = let b = ended _ _ _ c.loop-rule.invariant.within c.label_end-end.ensures in omega arith
+pub loop-i-preserved : goal.loop-i-preserved
+loop-i-preserved c =
+    let s = c.split.ensures in
+    let e = c.enumerate-i-items.ensures in
+    let t = at_turn c.args.form.now _ _ _
+    (YieldsList-turn (in_order c.args.form.now c.into_iter-i-iterator.ensures.into_iter_gives e.source e.count s.rest s.done s.closure (λ x b q k. search (rules, tests)))
+    c.loop-i.yielded _ c.loop-i.yielded_by _ _ (c.in-Some.i, c.in-Some.label) c.in-Some.is c.next.ensures.steps) in
+    ask_on (permits c.args.edition.now) _ c.loop-i.invariant t c.in_ok-label_rule_with.ensures refl (length_push c.loop-i.yielded _ ∙ add-one _)
 
-pub slice_bounds-label_rule_with-count : goal.slice_bounds-label_rule_with-count
-slice_bounds-label_rule_with-count c = let b = ended _ _ _ c.loop-rule.invariant.within c.label_end-end.ensures in omega arith
-
-pub slice_bounds-label_rule_with-start : goal.slice_bounds-label_rule_with-start
-slice_bounds-label_rule_with-start c = let b = ended _ _ _ c.loop-rule.invariant.within c.label_end-end.ensures in omega arith
-
-pub slice_bounds-label_rule_with-end : goal.slice_bounds-label_rule_with-end
-slice_bounds-label_rule_with-end c = let b = ended _ _ _ c.loop-rule.invariant.within c.label_end-end.ensures in omega arith
-
-pub returns-then-rule-ne-ACCEPTED : goal.returns-then-rule-ne-ACCEPTED
-returns-then-rule-ne-ACCEPTED c = ask_stops _ c.loop-rule.invariant _ c.label_end-end.ensures c.label_rule_with-rule.ensures c.if-rule-ne-ACCEPTED.true
-
-pub returns-then-end-form : goal.returns-then-end-form
-returns-then-end-form c = ask_last _ c.loop-rule.invariant _ c.label_end-end.ensures c.label_rule_with-rule.ensures c.if-rule-ne-ACCEPTED.false c.if-end-form.true
-
-pub overflow_add-i : goal.overflow_add-i
-overflow_add-i c = omega (arith, c.loop-rule.invariant.index, c.loop-rule.invariant.within)
-
-pub loop-rule-smaller : goal.loop-rule-smaller
-loop-rule-smaller c = let b = ended _ _ _ c.loop-rule.invariant.within c.label_end-end.ensures in omega arith
-
-pub loop-rule-preserved : goal.loop-rule-preserved
-loop-rule-preserved c = ask_on _ c.loop-rule.invariant _ c.label_end-end.ensures c.label_rule_with-rule.ensures c.if-rule-ne-ACCEPTED.false c.if-end-form.false
+pub returns : goal.returns
+returns c =
+    let s = c.split.ensures in
+    let e = c.enumerate-i-items.ensures in
+    let d = YieldsList-end (in_order c.args.form.now c.into_iter-i-iterator.ensures.into_iter_gives e.source e.count s.rest s.done s.closure (λ x b q k. search (rules, tests)))
+    c.loop-i.yielded _ c.loop-i.yielded_by _ _ c.in-None.is c.next.ensures.steps in
+    ask_end (permits c.args.edition.now) _ _ c.loop-i.invariant (at_last _ _ d.1)

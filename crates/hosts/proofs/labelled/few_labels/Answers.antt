@@ -1,17 +1,20 @@
--- `few_labels` meets its contract: with no first or no second period there are fewer than three labels, and with both there are three.
+-- `few_labels` meets its contract: the parts are the labels.
 -- Assumes nothing.
-use mathlib.Core.Path.{◌∙◌}
-use mathlib.Core.Logic.{⊎_elim}
-use borrow.Author.Tests.{le-leb, lt-leb}
-use Rattle.hosts.proofs.Walking.{one_label, two_labels, three_labels}
-use Rattle.lists.proofs.Laws.{lt_or_le}
+use mathlib.Core.Path.{ap, ◌∙◌}
+use mathlib.Core.List.{List}
+use Prim.Native.Nat.{ℕ}
+use lib.Dec.{ltb}
+use lib.ListN.{length}
+use Rattle.std.proofs.Common.{rules, tests}
+use Rattle.std.proofs.lemmas.Iterator.Splits.{YieldsList-from_slice_split}
+use Rattle.std.proofs.lemmas.Iterator.Consumers.{count_from_yields_List}
+use Rattle.rules.specs.Labels.{period}
+use Rattle.hosts.proofs.Splitting.{split_is}
 use Rattle.hosts.proofs.labelled.few_labels.Goals as goal
-
-pub returns-then-a-n : goal.returns-then-a-n
-returns-then-a-n c = one_label _ _ c.label_end-a.ensures c.if-a-n.true
 
 pub returns : goal.returns
 returns c =
-    ⊎_elim (λ h. lt-leb _ _ h ∙ three_labels _ _ c.label_end-a.ensures c.if-a-n.false _ c.label_end-b.ensures h)
-    (λ h. le-leb _ _ h ∙ two_labels _ _ c.label_end-a.ensures c.if-a-n.false _ c.label_end-b.ensures h)
-    (lt_or_le _ _)
+    let s = c.split.ensures in
+    ap (λ (n : ℕ). ltb n 3)
+    (count_from_yields_List _ _ c.count.ensures.ran (YieldsList-from_slice_split _ period c.args.form.now s.rest s.done s.closure (λ x b q k. search (rules, tests)))
+    ∙ ap (λ (ls : List (List ℕ)). length ls) (split_is c.args.form.now))

@@ -1,14 +1,16 @@
 -- `octets_of` meets its contract, by what the call for one label states of a scratch of 63 octets.
 -- Assumes nothing.
+use mathlib.Core.Path.{◌∙◌}
 use native.Mathlib.Omega.{arith}
-use borrow.Author.Tests.{eqb-true}
-use Rattle.rules.specs.Editions.{today_with}
+use Rattle.rules.specs.Editions.{permits}
 use Rattle.rules.proofs.Editions.{lent_stretch}
 use Rattle.ascii.proofs.OfNames.{took, gave}
+use Rattle.hosts.proofs.Counting.{octets_is}
 use Rattle.hosts.proofs.labelled.octets_of.Goals as goal
 
 pub returns : goal.returns
-returns c = record {
-  coded = took (today_with c.args.kanji.now) (lent_stretch _ _) c.label_form-put.ensures (omega arith) c.requires;
-  count = λ y. (gave (today_with c.args.kanji.now) (lent_stretch _ _) c.label_form-put.ensures (omega arith) c.requires (eqb-true _ 0 y)).0;
-}
+returns c =
+    let P = permits c.args.edition.now in
+    c.ok.ensures.value
+    ∙ octets_is P c.args.label.now c.label_form.result (took P (lent_stretch _ _) c.label_form.ensures (omega arith) c.requires)
+    (λ z. (gave P (lent_stretch _ _) c.label_form.ensures (omega arith) c.requires z).0)

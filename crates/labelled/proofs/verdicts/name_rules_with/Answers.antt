@@ -2,70 +2,31 @@
 -- Assumes nothing.
 use mathlib.Core.Path.{sym, ap, ◌∙◌}
 use native.Mathlib.Omega.{arith}
+use lib.Seq.{length-take-le}
 use Rattle.rules.specs.Rules.{by_labels}
-use Rattle.labelled.proofs.Cutting.{ends_at}
+use Rattle.labelled.proofs.Cutting.{ends_at, two_within, three_first, three_within}
+use Rattle.labelled.specs.declared.Cut.TheVariants.{Two, Three}
 use Rattle.labelled.proofs.OfName.{three_refused, other_count}
 use Rattle.labelled.proofs.verdicts.name_rules_with.Goals as goal
+use Rattle.labelled.proofs.verdicts.name_rules_with.Goals.{in_default-via-in-Three+else-has_prefectures, in_default-via-in_default}
 
-pub slice_bounds-two_labels-end : goal.slice_bounds-two_labels-end
-slice_bounds-two_labels-end c = omega (arith, ((ends_at _ c.label_ends-ends.ensures).two c.if-ends-eq2.true).0)
+pub slice_bounds-labels_rule-end : goal.slice_bounds-labels_rule-end
+slice_bounds-labels_rule-end c = sym (length-take-le c.in-Two.a c.args.form.now (omega (arith, two_within _ c.label_ends.ensures c.in-Two.is)))
 
-pub overflow_add-a : goal.overflow_add-a
-overflow_add-a c = omega (arith, ((ends_at _ c.label_ends-ends.ensures).two c.if-ends-eq2.true).0)
+pub slice_bounds-labels_rule-end-in-Three : goal.slice_bounds-labels_rule-end-in-Three
+slice_bounds-labels_rule-end-in-Three c =
+    let e = c.label_ends.ensures in
+    sym (length-take-le c.in-Three.a c.args.form.now (omega (arith, three_first _ e c.in-Three.is, three_within _ e c.in-Three.is)))
 
-pub offset_bounds-form-a : goal.offset_bounds-form-a
-offset_bounds-form-a c = omega (arith, ((ends_at _ c.label_ends-ends.ensures).two c.if-ends-eq2.true).0, c.well_formed.1.1.0)
+pub returns-in-Two : goal.returns-in-Two
+returns-in-Two c = c.labels_rule.ensures ∙ ap (by_labels _) (sym (ends_at c.args.form.now (Two c.in-Two.a) c.in-Two.ensures).1)
 
-pub slice_bounds-two_labels-count-then-ends-eq2 : goal.slice_bounds-two_labels-count-then-ends-eq2
-slice_bounds-two_labels-count-then-ends-eq2 c = omega (arith, ((ends_at _ c.label_ends-ends.ensures).two c.if-ends-eq2.true).0)
+pub returns-in-Three : goal.returns-in-Three
+returns-in-Three c = c.labels_rule-in-Three.ensures ∙ ap (by_labels _) (sym (ends_at c.args.form.now (Three c.in-Three.a c.in-Three.b) c.in-Three.ensures).2)
 
-pub slice_bounds-two_labels-start-then-ends-eq2 : goal.slice_bounds-two_labels-start-then-ends-eq2
-slice_bounds-two_labels-start-then-ends-eq2 c = omega (arith, ((ends_at _ c.label_ends-ends.ensures).two c.if-ends-eq2.true).0)
-
-pub returns-then-ends-eq2 : goal.returns-then-ends-eq2
-returns-then-ends-eq2 c = c.two_labels.ensures ∙ ap (by_labels _) (sym ((ends_at _ c.label_ends-ends.ensures).two c.if-ends-eq2.true).1)
-
-pub returns-then-not-has_prefectures : goal.returns-then-not-has_prefectures
-returns-then-not-has_prefectures c = c.refused.ensures ∙ three_refused _ _ _ _ _ (sym c.has_prefectures.ensures ∙ c.if-not-has_prefectures.true) ((ends_at _ c.label_ends-ends.ensures).three c.if-ends-eq3.true).2
-
-pub slice_bounds-three_labels-end : goal.slice_bounds-three_labels-end
-slice_bounds-three_labels-end c = let p = (ends_at _ c.label_ends-ends.ensures).three c.if-ends-eq3.true in omega (arith, p.0, p.1)
-
-pub overflow_add-a-then-ends-eq3 : goal.overflow_add-a-then-ends-eq3
-overflow_add-a-then-ends-eq3 c = let p = (ends_at _ c.label_ends-ends.ensures).three c.if-ends-eq3.true in omega (arith, p.0, p.1)
-
-pub offset_bounds-form-a-then-ends-eq3 : goal.offset_bounds-form-a-then-ends-eq3
-offset_bounds-form-a-then-ends-eq3 c = let p = (ends_at _ c.label_ends-ends.ensures).three c.if-ends-eq3.true in omega (arith, p.0, p.1, c.well_formed.1.1.0)
-
-pub slice_bounds-three_labels-count-then-ends-eq3 : goal.slice_bounds-three_labels-count-then-ends-eq3
-slice_bounds-three_labels-count-then-ends-eq3 c = let p = (ends_at _ c.label_ends-ends.ensures).three c.if-ends-eq3.true in omega (arith, p.0, p.1)
-
-pub slice_bounds-three_labels-start-then-ends-eq3 : goal.slice_bounds-three_labels-start-then-ends-eq3
-slice_bounds-three_labels-start-then-ends-eq3 c = let p = (ends_at _ c.label_ends-ends.ensures).three c.if-ends-eq3.true in omega (arith, p.0, p.1)
-
-pub slice_bounds-three_labels-end-then-ends-eq3 : goal.slice_bounds-three_labels-end-then-ends-eq3
-slice_bounds-three_labels-end-then-ends-eq3 c = let p = (ends_at _ c.label_ends-ends.ensures).three c.if-ends-eq3.true in omega (arith, p.0, p.1)
-
-pub overflow_add-b : goal.overflow_add-b
-overflow_add-b c = let p = (ends_at _ c.label_ends-ends.ensures).three c.if-ends-eq3.true in omega (arith, p.0, p.1)
-
-pub offset_bounds-form-b : goal.offset_bounds-form-b
-offset_bounds-form-b c = let p = (ends_at _ c.label_ends-ends.ensures).three c.if-ends-eq3.true in omega (arith, p.0, p.1, c.well_formed.1.1.0)
-
-pub slice_bounds-three_labels-count-then-ends-eq3-2 : goal.slice_bounds-three_labels-count-then-ends-eq3-2
-slice_bounds-three_labels-count-then-ends-eq3-2 c = let p = (ends_at _ c.label_ends-ends.ensures).three c.if-ends-eq3.true in omega (arith, p.0, p.1)
-
-pub slice_bounds-three_labels-start-then-ends-eq3-2 : goal.slice_bounds-three_labels-start-then-ends-eq3-2
-slice_bounds-three_labels-start-then-ends-eq3-2 c = let p = (ends_at _ c.label_ends-ends.ensures).three c.if-ends-eq3.true in omega (arith, p.0, p.1)
-
-pub slice_bounds-three_labels-end-then-ends-eq3-2 : goal.slice_bounds-three_labels-end-then-ends-eq3-2
-slice_bounds-three_labels-end-then-ends-eq3-2 c = let p = (ends_at _ c.label_ends-ends.ensures).three c.if-ends-eq3.true in omega (arith, p.0, p.1)
-
-pub three_labels-requires : goal.three_labels-requires
-three_labels-requires c = sym c.has_prefectures.ensures ∙ c.if-not-has_prefectures.false
-
-pub returns-then-ends-eq3 : goal.returns-then-ends-eq3
-returns-then-ends-eq3 c = c.three_labels.ensures ∙ ap (by_labels _) (sym ((ends_at _ c.label_ends-ends.ensures).three c.if-ends-eq3.true).2)
-
-pub returns : goal.returns
-returns c = c.refused-2.ensures ∙ other_count _ _ (ends_at _ c.label_ends-ends.ensures) c.if-ends-eq2.false c.if-ends-eq3.false
+pub returns-in_default : goal.returns-in_default
+returns-in_default c =
+    rw c.at.ensures (elim c.in_default.branch [
+      | in_default-via-in-Three+else-has_prefectures w ↦ three_refused _ _ _ _ _ (sym w.has_prefectures.ensures ∙ w.if-has_prefectures.false) (ends_at c.args.form.now (Three w.in-Three.a w.in-Three.b) w.in-Three.ensures).2
+      | in_default-via-in_default w ↦ other_count _ _ _ (ends_at _ _ c.label_ends.ensures) w.in_default.not-Two w.in_default.not-Three
+    ])

@@ -4,10 +4,10 @@ use borrow.Author.Tests.{lt-ltb, le-ltb}
 use Rattle.live.specs.Live.{stepped}
 use Rattle.live.proofs.Live.step.Goals as goal
 
-pub returns-then-at-lt256 : goal.returns-then-at-lt256
+pub returns-then-self-lt256 : goal.returns-then-self-lt256
 unfolding stepped
-returns-then-at-lt256 c = simp (lt-ltb _ _ c.if-at-lt256.true)
+returns-then-self-lt256 c = simp (lt-ltb _ _ c.if-self-lt256.true)
 
-pub returns-else-at-lt256 : goal.returns-else-at-lt256
+pub returns-else-self-lt256 : goal.returns-else-self-lt256
 unfolding stepped
-returns-else-at-lt256 c = simp (le-ltb _ _ c.if-at-lt256.false)
+returns-else-self-lt256 c = simp (le-ltb _ _ c.if-self-lt256.false)

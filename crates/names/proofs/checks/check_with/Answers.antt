@@ -1,25 +1,51 @@
 -- `check_with` meets its contract: 1, then what the judge says; its array holds what is written, and the labels are those of the form.
 -- Assumes nothing.
+use mathlib.Core.Path.{sym, ap}
+use mathlib.Core.List.{List, ◌++◌}
+use Prim.Native.Nat.{ℕ, ◌≤◌}
+use lib.ListN.{length, drop}
 use native.Mathlib.Omega.{arith}
+use lib.Seq.{length-take-le}
+use Rattle.std.proofs.lemmas.Result.{err_from_is_err_and}
 use Rattle.names.proofs.Answering.{accepted_as, two_or_three_there, check_no_room, check_refused, check_accepted}
 use Rattle.names.proofs.checks.check_with.Goals as goal
 
 pub returns-then-out-lt256 : goal.returns-then-out-lt256
-returns-then-out-lt256 c = check_no_room _ _ _ c.refused_check.ensures c.if-out-lt256.true
+returns-then-out-lt256 c = rw c.at.ensures (check_no_room _ _ _ c.if-out-lt256.true)
 
-pub returns-then-ruled-ne-ACCEPTED : goal.returns-then-ruled-ne-ACCEPTED
-returns-then-ruled-ne-ACCEPTED c = check_refused _ _ _ c.if-out-lt256.false c.judge_into-ruled.ensures c.refused_check-then-ruled-ne-ACCEPTED.ensures c.if-ruled-ne-ACCEPTED.true
+pub returns-in_err-class : goal.returns-in_err-class
+returns-in_err-class c =
+    let p = err_from_is_err_and c.from_residual.result c.from_residual.ensures.1 in
+    rw (p.1, p.2) (check_refused _ _ _ c.if-out-lt256.false c.judge_into-ruled.ensures c.in_err-class.was)
 
-pub slice_bounds-label_places-end : goal.slice_bounds-label_places-end
-slice_bounds-label_places-end c = let p = accepted_as _ _ c.judge_into-ruled.ensures c.if-ruled-ne-ACCEPTED.false in omega (arith, p.few, c.judge_into-ruled.auto.form)
+pub slice_bounds-buffer-end : goal.slice_bounds-buffer-end
+slice_bounds-buffer-end c = let p = accepted_as _ _ c.judge_into-ruled.ensures c.in_ok-class.was in omega (arith, p.few, c.judge_into-ruled.auto.form)
 
-pub label_places-labels-requires : goal.label_places-labels-requires
-label_places-labels-requires c = two_or_three_there _ _ c.judge_into-ruled.ensures c.if-ruled-ne-ACCEPTED.false
+pub slice_bounds-form-end : goal.slice_bounds-form-end
+slice_bounds-form-end c =
+    let p = accepted_as _ _ c.judge_into-ruled.ensures c.in_ok-class.was in
+    sym (length-take-le _ c.judge_into-ruled.new.form (omega (arith, p.few, c.judge_into-ruled.auto.form)))
 
-pub slice_bounds-copy-end : goal.slice_bounds-copy-end
-slice_bounds-copy-end c = let p = accepted_as _ _ c.judge_into-ruled.ensures c.if-ruled-ne-ACCEPTED.false in omega (arith, p.few, c.judge_into-ruled.auto.form)
+pub slice_bounds-copy_from_slice-end : goal.slice_bounds-copy_from_slice-end
+slice_bounds-copy_from_slice-end c = let p = accepted_as _ _ c.judge_into-ruled.ensures c.in_ok-class.was in omega (arith, p.few)
+
+pub slice_bounds-copy_from_slice-end-2 : goal.slice_bounds-copy_from_slice-end-2
+slice_bounds-copy_from_slice-end-2 c =
+    let p = accepted_as _ _ c.judge_into-ruled.ensures c.in_ok-class.was in
+    sym (length-take-le _ c.args.out.now (omega (arith, p.few)))
+
+pub copy_from_slice-requires : goal.copy_from_slice-requires
+copy_from_slice-requires c =
+    let p = accepted_as _ _ c.judge_into-ruled.ensures c.in_ok-class.was in
+    let j = c.judge_into-ruled in
+    let f : j.result.length ≤ length c.args.out.now = omega (arith, p.few) in
+    let g : j.result.length ≤ length j.new.form = omega (arith, p.few, j.auto.form) in
+    rw (length-take-le j.result.length c.args.out.now f, length-take-le j.result.length j.new.form g)
+
+pub label_places-requires : goal.label_places-requires
+label_places-requires c = two_or_three_there _ _ c.judge_into-ruled.ensures c.in_ok-class.was
 
 pub returns : goal.returns
 returns c =
-    check_accepted _ _ _ c.if-out-lt256.false c.judge_into-ruled.ensures c.if-ruled-ne-ACCEPTED.false c.label_places-labels.ensures
-    c.copy.ensures
+    check_accepted _ _ _ c.if-out-lt256.false c.judge_into-ruled.ensures c.in_ok-class.was c.label_places.ensures
+    (ap (λ (l : List ℕ). l ++ drop c.judge_into-ruled.result.length c.args.out.now) c.copy_from_slice.ensures.after)

@@ -2,9 +2,9 @@
 -- Assumes nothing.
 use mathlib.Core.Path.{◌≡◌}
 use Rattle.rules.specs.Permits.{Permits}
-use Rattle.names.specs.Calls.{judged}
+use Rattle.names.specs.Calls.{judge_told, judged}
 use Rattle.rules.proofs.Editions.{lending}
 use Rattle.names.proofs.judges.judge.Goals as goal
 
 pub returns : goal.returns
-returns c = lending (λ (P : Permits). c.judge_with.result ≡ judged P c.args.text.now) _ c.kanji_bits-kanji.ensures c.judge_with.ensures
+returns c = lending (λ (P : Permits). judge_told c.judge_with.result ≡ judged P c.args.text.now) _ c.kanji_bits-kanji.ensures c.judge_with.ensures

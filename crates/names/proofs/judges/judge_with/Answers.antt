@@ -1,20 +1,28 @@
 -- `judge_with` meets its contract: its array of zeros, lent, holds the normal form before its zeros, and the labels are those of the form.
 -- Assumes nothing.
-use mathlib.Core.Path.{ap}
+use mathlib.Core.Path.{sym}
 use native.Mathlib.Omega.{arith}
-use Rattle.fronts.proofs.Shown.{shown_fits}
-use Rattle.names.specs.declared.judges.Ruled.{Ruled}
-use Rattle.names.proofs.Answering.{two_or_three_there}
-use Rattle.names.proofs.Judging.{as_judged}
+use lib.Seq.{length-take-le}
+use Rattle.names.proofs.Answering.{accepted_as, two_or_three_there}
+use Rattle.names.proofs.Judging.{judged_refused, judged_accepted}
 use Rattle.names.proofs.judges.judge_with.Goals as goal
 
-pub slice_bounds-places_said-end : goal.slice_bounds-places_said-end
-slice_bounds-places_said-end c =
+pub slice_bounds-form-end : goal.slice_bounds-form-end
+slice_bounds-form-end c =
     let j = c.judge_into-ruled in
-    omega (arith, ap (λ (r : Ruled). r.length) j.ensures.result, shown_fits c.args.text.now, j.auto.form)
+    let p = accepted_as _ _ j.ensures c.in-Ok.is in omega (arith, p.few, j.auto.form)
 
-pub places_said-labels-requires : goal.places_said-labels-requires
-places_said-labels-requires c = two_or_three_there _ _ c.judge_into-ruled.ensures
+pub slice_bounds-label_places-end : goal.slice_bounds-label_places-end
+slice_bounds-label_places-end c =
+    let j = c.judge_into-ruled in
+    let p = accepted_as _ _ j.ensures c.in-Ok.is in
+    sym (length-take-le _ j.new.form (omega (arith, p.few, j.auto.form)))
 
-pub returns : goal.returns
-returns c = as_judged _ _ c.judge_into-ruled.ensures c.places_said-labels.ensures
+pub label_places-requires : goal.label_places-requires
+label_places-requires c = two_or_three_there _ _ c.judge_into-ruled.ensures c.in-Ok.is
+
+pub returns-in-Ok : goal.returns-in-Ok
+returns-in-Ok c = judged_accepted _ _ c.judge_into-ruled.ensures c.in-Ok.is c.label_places.ensures
+
+pub returns-in-Err : goal.returns-in-Err
+returns-in-Err c = judged_refused _ _ c.judge_into-ruled.ensures c.in-Err.is

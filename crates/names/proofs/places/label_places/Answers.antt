@@ -1,27 +1,15 @@
 -- `label_places` meets its contract: the labels start past the periods, and end at them.
 -- Assumes nothing.
-use native.Mathlib.Omega.{arith}
+use Rattle.labelled.specs.declared.Cut.TheVariants.{Two, Three}
 use Rattle.labelled.proofs.Cutting.{ends_at}
-use Rattle.names.proofs.Cutting.{first_inside, three_there, two_stand, three_stand}
+use Rattle.names.proofs.Cutting.{two_stand, three_stand, cut_there}
 use Rattle.names.proofs.places.label_places.Goals as goal
 
-pub overflow_add-p : goal.overflow_add-p
-overflow_add-p c = omega (arith, first_inside _ (ends_at _ c.label_ends-ends.ensures) c.requires)
+pub returns-in-Two : goal.returns-in-Two
+returns-in-Two c = two_stand _ _ (ends_at c.args.form.now (Two c.in-Two.a) c.in-Two.ensures)
 
-pub overflow_sub-result : goal.overflow_sub-result
-overflow_sub-result c = omega (arith, first_inside _ (ends_at _ c.label_ends-ends.ensures) c.requires)
+pub returns-in-Three : goal.returns-in-Three
+returns-in-Three c = three_stand _ _ _ (ends_at c.args.form.now (Three c.in-Three.a c.in-Three.b) c.in-Three.ensures)
 
-pub returns-then-ends-eq2 : goal.returns-then-ends-eq2
-returns-then-ends-eq2 c = two_stand _ (ends_at _ c.label_ends-ends.ensures) c.if-ends-eq2.true
-
-pub overflow_add-q : goal.overflow_add-q
-overflow_add-q c = let E = ends_at _ c.label_ends-ends.ensures in let p = E.three (three_there _ E c.requires c.if-ends-eq2.false) in omega (arith, p.1)
-
-pub overflow_sub-result-2 : goal.overflow_sub-result-2
-overflow_sub-result-2 c = let E = ends_at _ c.label_ends-ends.ensures in let p = E.three (three_there _ E c.requires c.if-ends-eq2.false) in omega (arith, p.0)
-
-pub overflow_sub-result-3 : goal.overflow_sub-result-3
-overflow_sub-result-3 c = let E = ends_at _ c.label_ends-ends.ensures in let p = E.three (three_there _ E c.requires c.if-ends-eq2.false) in omega (arith, p.1)
-
-pub returns : goal.returns
-returns c = let E = ends_at _ c.label_ends-ends.ensures in three_stand _ E (three_there _ E c.requires c.if-ends-eq2.false)
+pub unreachable-requires : goal.unreachable-requires
+unreachable-requires c = cut_there _ _ (ends_at _ _ c.label_ends.ensures) c.requires c.in-One.is

@@ -1,57 +1,58 @@
 -- `any_name` meets its contract: what the judge says, then 14; what is put is copied last.
 -- Assumes nothing.
-use mathlib.Core.Path.{ap}
+use mathlib.Core.Path.{sym, ap}
 use mathlib.Core.List.{List, ◌++◌}
 use Prim.Native.Nat.{ℕ, ◌≤◌}
 use lib.ListN.{length, drop}
 use lib.Seq.{length-take-le}
 use native.Mathlib.Omega.{arith}
-use borrow.Author.Tests.{not-true, not-false}
+use Rattle.std.proofs.lemmas.Result.{err_from_is_err_and}
 use Rattle.rules.proofs.Editions.{lent_short}
 use Rattle.names.proofs.Answering.{accepted_as, answer_is, ascii_refused}
-use Rattle.names.proofs.Enough.{ready, put_size, piece_length, stopped, finished}
+use Rattle.names.proofs.Enough.{ready, leftmost_passed, put_size, stopped, finished}
 use Rattle.names.proofs.whole.any_name.Goals as goal
 
-pub returns-then-ruled-ne-ACCEPTED : goal.returns-then-ruled-ne-ACCEPTED
-returns-then-ruled-ne-ACCEPTED c = ascii_refused _ _ _ c.requires (answer_is _ _ c.judge_into-ruled.ensures) c.if-ruled-ne-ACCEPTED.true c.refused_form.ensures
+pub returns-in_err-class : goal.returns-in_err-class
+returns-in_err-class c =
+    let p = err_from_is_err_and c.from_residual.result c.from_residual.ensures.1 in
+    rw (p.1, p.2) (ascii_refused _ _ _ c.requires _ (answer_is _ _ c.judge_into-ruled.ensures c.in_err-class.was))
 
-pub slice_bounds-put_labels-end : goal.slice_bounds-put_labels-end
-slice_bounds-put_labels-end c = let p = accepted_as _ _ c.judge_into-ruled.ensures c.if-ruled-ne-ACCEPTED.false in omega (arith, p.few, c.judge_into-ruled.auto.form)
+pub slice_bounds-buffer-end : goal.slice_bounds-buffer-end
+slice_bounds-buffer-end c = let p = accepted_as _ _ c.judge_into-ruled.ensures c.in_ok-class.was in omega (arith, p.few, c.judge_into-ruled.auto.form)
 
-pub put_labels-put-requires : goal.put_labels-put-requires
-put_labels-put-requires c = ready _ (lent_short _ _) _ c.judge_into-ruled.ensures c.if-ruled-ne-ACCEPTED.false
+pub slice_bounds-form-end : goal.slice_bounds-form-end
+slice_bounds-form-end c = let p = accepted_as _ _ c.judge_into-ruled.ensures c.in_ok-class.was in sym (length-take-le _ c.judge_into-ruled.new.form (omega (arith, p.few, c.judge_into-ruled.auto.form)))
 
-pub returns-then-not-put : goal.returns-then-not-put
-returns-then-not-put c = stopped _ _ c.judge_into-ruled.ensures c.if-ruled-ne-ACCEPTED.false c.put_labels-put.ensures _ c.requires c.refused_form-then-not-put.ensures (not-true _ c.if-not-put.true)
+pub put_labels-requires : goal.put_labels-requires
+put_labels-requires c = ready _ (lent_short _ _) _ c.judge_into-ruled.ensures c.in_ok-class.was
+
+pub returns-in_default : goal.returns-in_default
+returns-in_default c = rw c.at.ensures (stopped _ _ c.judge_into-ruled.ensures c.in_ok-class.was c.put_labels.ensures _ c.requires c.in_default.is)
 
 pub slice_bounds-copy_from_slice-end : goal.slice_bounds-copy_from_slice-end
-slice_bounds-copy_from_slice-end c = let h = put_size _ _ c.judge_into-ruled.ensures c.if-ruled-ne-ACCEPTED.false c.put_labels-put.ensures (not-false _ c.if-not-put.false) in omega (arith, c.put_labels-put.auto.out, c.requires)
+slice_bounds-copy_from_slice-end c = let h = put_size _ _ c.judge_into-ruled.ensures c.in_ok-class.was c.put_labels.ensures c.in-Some.is in omega (arith, c.put_labels.auto.out, c.requires)
 
 pub slice_bounds-copy_from_slice-end-2 : goal.slice_bounds-copy_from_slice-end-2
 slice_bounds-copy_from_slice-end-2 c =
-    let h = put_size _ _ c.judge_into-ruled.ensures c.if-ruled-ne-ACCEPTED.false c.put_labels-put.ensures (not-false _ c.if-not-put.false) in
-    let r = c.put_labels-put.result in
-    let f : r.at ≤ length c.args.out.now = omega (arith, c.put_labels-put.auto.out, c.requires) in
-    omega (arith, length-take-le r.at c.args.out.now f)
+    let h = put_size _ _ c.judge_into-ruled.ensures c.in_ok-class.was c.put_labels.ensures c.in-Some.is in
+    sym (length-take-le _ c.args.out.now (omega (arith, c.put_labels.auto.out, c.requires)))
+
+pub slice_bounds-octets-end : goal.slice_bounds-octets-end
+slice_bounds-octets-end c = put_size _ _ c.judge_into-ruled.ensures c.in_ok-class.was c.put_labels.ensures c.in-Some.is
+
+pub slice_bounds-copy_from_slice-end-3 : goal.slice_bounds-copy_from_slice-end-3
+slice_bounds-copy_from_slice-end-3 c = sym (length-take-le _ c.put_labels.new.out (put_size _ _ c.judge_into-ruled.ensures c.in_ok-class.was c.put_labels.ensures c.in-Some.is))
 
 pub copy_from_slice-requires : goal.copy_from_slice-requires
 copy_from_slice-requires c =
-    let y = not-false _ c.if-not-put.false in
-    let e = c.judge_into-ruled.ensures in
-    let z = c.if-ruled-ne-ACCEPTED.false in
-    let t = c.put_labels-put.ensures in
-    let h = put_size _ _ e z t y in
-    let r = c.put_labels-put.result in
-    let f : r.at ≤ length c.args.out.now = omega (arith, c.put_labels-put.auto.out, c.requires) in
-    rw (length-take-le r.at c.args.out.now f, piece_length _ _ e z t y)
+    let h = put_size _ _ c.judge_into-ruled.ensures c.in_ok-class.was c.put_labels.ensures c.in-Some.is in
+    let f : c.in-Some.length ≤ length c.args.out.now = omega (arith, c.put_labels.auto.out, c.requires) in
+    rw (length-take-le c.in-Some.length c.args.out.now f, length-take-le c.in-Some.length c.put_labels.new.out h)
 
-pub slice_bounds-leftmost_kinds-end : goal.slice_bounds-leftmost_kinds-end
-slice_bounds-leftmost_kinds-end c =
-    let e = c.judge_into-ruled in
-    let p = accepted_as _ _ e.ensures c.if-ruled-ne-ACCEPTED.false in
-    omega (arith, p.few, e.auto.form)
+pub leftmost_kinds-requires : goal.leftmost_kinds-requires
+leftmost_kinds-requires c = leftmost_passed _ _ c.judge_into-ruled.ensures c.in_ok-class.was c.put_labels.ensures
 
 pub returns : goal.returns
 returns c =
-    finished _ _ c.judge_into-ruled.ensures c.if-ruled-ne-ACCEPTED.false c.put_labels-put.ensures _ c.requires (not-false _ c.if-not-put.false)
-    (ap (λ (l : List ℕ). l ++ drop c.put_labels-put.result.at c.args.out.now) c.copy_from_slice.ensures.after) c.leftmost_kinds-kinds.ensures
+    finished _ _ c.judge_into-ruled.ensures c.in_ok-class.was c.put_labels.ensures _ c.requires c.in-Some.is
+    (ap (λ (l : List ℕ). l ++ drop c.in-Some.length c.args.out.now) c.copy_from_slice.ensures.after) c.leftmost_kinds.ensures

@@ -2,12 +2,12 @@
 -- Assumes nothing.
 use Prim.Native.Nat.{◌-◌}
 use lib.ListN.{length}
-use Rattle.rules.specs.Editions.{edition_with}
+use Rattle.rules.specs.Editions.{permits}
 use Rattle.names.proofs.Joining.{Naming}
 use Rattle.names.proofs.whole.put_labels.Given as goal
 
-abbrev pub invariant-loop-put : goal.invariant-loop-put
-invariant-loop-put l = Naming (edition_with l.kanji l.edition) l.form l.initial.out l.out l.from l.at
+abbrev pub invariant-loop-at : goal.invariant-loop-at
+invariant-loop-at l = Naming (permits l.edition) l.form l.initial.out l.out l.from l.at
 
-abbrev pub decreases-loop-put : goal.decreases-loop-put
-decreases-loop-put l = length l.form - l.from
+abbrev pub decreases-loop-at : goal.decreases-loop-at
+decreases-loop-at l = length l.form - l.from

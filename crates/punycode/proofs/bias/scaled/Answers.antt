@@ -6,27 +6,12 @@ use Rattle.punycode.proofs.Clipped.{adapt_next, adapt_end}
 use Rattle.punycode.proofs.bias.scaled.Goals as goal
 
 pub loop-d-init : goal.loop-d-init
-loop-d-init c = (c.args.e, omega arith, refl, omega arith)
-
-pub overflow_add-k : goal.overflow_add-k
-overflow_add-k c = omega arith
-
-pub loop-d-smaller : goal.loop-d-smaller
-loop-d-smaller c = omega arith
+loop-d-init c = (c.args.delta, omega arith, refl, omega arith)
 
 pub loop-d-preserved : goal.loop-d-preserved
 loop-d-preserved c = let v = c.loop-d.invariant in
     let g = adapt_next v.0 c.loop-d.k c.loop-d.d v.1 (omega arith) in
     (g.0, g.1, sym g.2 ∙ v.2, omega arith)
-
-pub overflow_mul-result : goal.overflow_mul-result
-overflow_mul-result c = omega arith
-
-pub overflow_add-result : goal.overflow_add-result
-overflow_add-result c = omega arith
-
-pub nonzero_div-result : goal.nonzero_div-result
-nonzero_div-result c = omega arith
 
 pub overflow_add-result-2 : goal.overflow_add-result-2
 overflow_add-result-2 c = omega (arith, div-le_self (36 * c.loop-d.d) (c.loop-d.d + 38))

@@ -1,18 +1,14 @@
 -- `sagebasket_check_utf8` meets its contract: 16 where the octets do not decode, else what is told of the code points read.
 -- Assumes nothing.
-use mathlib.Core.Path.{refl, sym, ◌∙◌}
-use borrow.Author.Tests.{not-true, not-false}
+use mathlib.Core.Path.{refl}
 use Rattle.rules.specs.Editions.{edition_of}
 use Rattle.sagebasket.specs.Outside.{OfUtf8}
 use Rattle.sagebasket.proofs.Alike.{check_alike}
 use Rattle.sagebasket.proofs.Reading.{read_said}
 use Rattle.sagebasket.proofs.octets.sagebasket_check_utf8.Goals as goal
 
-pub returns-then-not-got : goal.returns-then-not-got
-returns-then-not-got c = OfUtf8.left (sym c.read_utf8-got.ensures.ok ∙ not-true _ c.if-not-got.true) c.plain.ensures refl refl
+pub returns-in-Some : goal.returns-in-Some
+returns-in-Some c = OfUtf8.read c.in-Some.ensures.0 (read_said _ (check_alike (edition_of _) _ _ _ _) c.args.name.now _ c.in-Some.ensures c.tell_check.ensures)
 
-pub returns : goal.returns
-returns c =
-    let d = c.read_utf8-got in
-    let ok = sym d.ensures.ok ∙ not-false _ c.if-not-got.false in
-    OfUtf8.read ok (read_said _ (check_alike (edition_of _) _ _ _ _) c.args.name.now _ _ d.ensures ok c.tell_check.ensures)
+pub returns-in-None : goal.returns-in-None
+returns-in-None c = OfUtf8.left c.in-None.ensures c.tell_not_utf8.ensures.0 c.tell_not_utf8.ensures.1 refl

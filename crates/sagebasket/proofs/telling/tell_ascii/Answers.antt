@@ -1,22 +1,29 @@
--- `tell_ascii` meets its contract: it tells what the whole ASCII form says.
+-- `tell_ascii` meets its contract: it tells what the whole ASCII form says, an accepted name and a refusal.
 -- Assumes nothing.
-use mathlib.Core.Path.{◌≡◌, sym, ap, ◌∙◌}
-use mathlib.Core.List.{List}
-use Prim.Native.Nat.{ℕ}
-use lib.ListN.{length, get_or}
+use mathlib.Core.Path.{◌≡◌}
+use lib.ListN.{length}
+use Rattle.std.proofs.Common.{Ok, Err}
 use Rattle.rules.specs.Editions.{edition_of}
-use Rattle.rules.specs.declared.LabelPlaces.{LabelPlaces}
-use Rattle.sagebasket.specs.Outside.{numbers, of_ascii_form}
+use Rattle.names.specs.Calls.{ascii_told}
+use Rattle.sagebasket.specs.Outside.{numbers, unnamed, of_ascii_form}
 use Rattle.sagebasket.proofs.Small.{ascii_small}
+use Rattle.sagebasket.proofs.Said.{tells}
 use borrow.Author.Rules.{rules}
 use Rattle.sagebasket.proofs.telling.tell_ascii.Goals as goal
 
-pub told-requires : goal.told-requires
-told-requires c = let l : length c.to_ascii-form.new.out ≡ 192 = search rules in rw c.no_labels-labels.ensures (ascii_small (edition_of _) c.to_ascii-form.ensures l)
+pub tell_name-requires : goal.tell_name-requires
+tell_name-requires c = let l : length c.to_ascii.new.out ≡ 192 = search rules in ascii_small (edition_of _) c.in-Ok.ensures l
 
-pub returns : goal.returns
+pub tell_refusal-requires : goal.tell_refusal-requires
+tell_refusal-requires c =
+    let l : length c.to_ascii.new.out ≡ 192 = search rules in
+    let s = ascii_small (edition_of _) c.in-Err.ensures l in
+    (s.place, s.length)
+
+pub returns-in-Ok : goal.returns-in-Ok
 unfolding of_ascii_form numbers
-returns c =
-    let r = c.to_ascii-form.result in
-    let t = c.told.ensures ∙ ap (λ (ls : LabelPlaces). numbers r.number r.place r.class r.kinds r.length ls) c.no_labels-labels.ensures in
-    record { result = r; meets = c.to_ascii-form.ensures; told = t; number = sym (ap (λ (xs : List ℕ). get_or xs 0 0) t) }
+returns-in-Ok c = tells (ascii_told (Ok c.in-Ok.name)) c.in-Ok.ensures c.tell_name.ensures
+
+pub returns-in-Err : goal.returns-in-Err
+unfolding of_ascii_form unnamed numbers
+returns-in-Err c = tells (ascii_told (Err c.in-Err.refused)) c.in-Err.ensures c.tell_refusal.ensures

@@ -1,26 +1,33 @@
--- `tell_check` meets its contract: it tells what the check says.
+-- `tell_check` meets its contract: it tells what the check says, an accepted name and a refusal.
 -- Assumes nothing.
-use mathlib.Core.Path.{◌≡◌, sym, ap, ◌∙◌}
-use mathlib.Core.List.{List}
+use mathlib.Core.Path.{◌≡◌}
 use native.Mathlib.Omega.{arith}
-use Prim.Native.Nat.{ℕ}
-use lib.ListN.{length, get_or}
+use lib.ListN.{length}
+use Rattle.std.proofs.Common.{Ok, Err}
 use Rattle.rules.specs.Editions.{edition_of}
-use Rattle.rules.specs.declared.Kinds.{Kinds}
-use Rattle.sagebasket.specs.Outside.{numbers, of_checked}
+use Rattle.names.specs.Calls.{check_told}
+use Rattle.sagebasket.specs.Outside.{numbers, unnamed, of_checked}
 use Rattle.sagebasket.proofs.Small.{check_small}
+use Rattle.sagebasket.proofs.Said.{tells}
 use borrow.Author.Rules.{rules}
 use Rattle.sagebasket.proofs.telling.tell_check.Goals as goal
 
-pub told-requires : goal.told-requires
-told-requires c =
-    let l : length c.check-checked.new.out ≡ 256 = search rules in
-    let s = check_small (edition_of _) c.check-checked.ensures l in
-    record { place = omega (arith, s.place, s.length); length = omega (arith, s.place, s.length); stands = s.stands }
+pub tell_name-requires : goal.tell_name-requires
+tell_name-requires c =
+    let l : length c.check.new.out ≡ 256 = search rules in
+    let s = check_small (edition_of _) c.in-Ok.ensures l in
+    record { place = s.place; length = omega (arith, s.length); stands = s.stands }
 
-pub returns : goal.returns
+pub tell_refusal-requires : goal.tell_refusal-requires
+tell_refusal-requires c =
+    let l : length c.check.new.out ≡ 256 = search rules in
+    let s = check_small (edition_of _) c.in-Err.ensures l in
+    (s.place, s.length)
+
+pub returns-in-Ok : goal.returns-in-Ok
 unfolding of_checked numbers
-returns c =
-    let r = c.check-checked.result in
-    let t = c.told.ensures ∙ ap (λ (ks : Kinds). numbers r.number r.place r.class ks r.length r.labels) c.no_kinds-kinds.ensures in
-    record { result = r; meets = c.check-checked.ensures; told = t; number = sym (ap (λ (xs : List ℕ). get_or xs 0 0) t) }
+returns-in-Ok c = tells (check_told (Ok c.in-Ok.name)) c.in-Ok.ensures c.tell_name.ensures
+
+pub returns-in-Err : goal.returns-in-Err
+unfolding of_checked unnamed numbers
+returns-in-Err c = tells (check_told (Err c.in-Err.refused)) c.in-Err.ensures c.tell_refusal.ensures

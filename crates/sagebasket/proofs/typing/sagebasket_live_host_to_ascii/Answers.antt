@@ -10,6 +10,6 @@ use Rattle.sagebasket.proofs.typing.sagebasket_live_host_to_ascii.Goals as goal
 
 pub returns : goal.returns
 returns c =
-    let a = c.args in
-    let whole : length a.state.now ≡ 258 = search rules in
-    held_said a.state.now whole _ c.lent-n.ensures _ (host_alike today _ _ _ _) c.tell_host.ensures
+    let s = c.args.state.now in
+    let whole : length s ≡ 258 = search rules in
+    held_said s whole c.typed.ensures _ (host_alike today _ _ _ _) c.tell_host.ensures

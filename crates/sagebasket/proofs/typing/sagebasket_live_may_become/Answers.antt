@@ -8,6 +8,7 @@ use Rattle.rules.specs.Hopeful.{hopeful}
 use Rattle.live.specs.Live.{hoped}
 use Rattle.sagebasket.specs.Outside.{flag, held}
 use Rattle.sagebasket.proofs.Held.{looked_at}
+use Rattle.sagebasket.proofs.Said.{flag_is}
 use Rattle.sagebasket.proofs.Hopeless.{past_hopeless}
 use borrow.Author.Rules.{rules}
 use Rattle.sagebasket.proofs.typing.sagebasket_live_may_become.Goals as goal
@@ -18,4 +19,4 @@ returns c =
     let s = c.args.state.now in
     let whole : length s ≡ 258 = search rules in
     let e = get_or s 257 0 in
-    c.yes.ensures ∙ ap flag (c.may_become.ensures ∙ looked_at s whole _ c.lent-n.ensures (hopeful (edition_of e)) false (past_hopeless e))
+    c.from.ensures ∙ flag_is _ ∙ ap flag (c.may_become.ensures ∙ looked_at s whole c.typed.ensures (hopeful (edition_of e)) false (past_hopeless e))

@@ -12,6 +12,6 @@ use Rattle.sagebasket.proofs.typing.sagebasket_live_to_ascii.Goals as goal
 pub returns : goal.returns
 unfolding held
 returns c =
-    let a = c.args in
-    let whole : length a.state.now ≡ 258 = search rules in
-    held_said a.state.now whole _ c.lent-n.ensures _ (ascii_alike (edition_of (get_or a.state.now 257 0)) _ _ _ _) c.tell_ascii.ensures
+    let s = c.args.state.now in
+    let whole : length s ≡ 258 = search rules in
+    held_said s whole c.typed.ensures _ (ascii_alike (edition_of (get_or s 257 0)) _ _ _ _) c.tell_ascii.ensures
