@@ -37,14 +37,15 @@ pub struct AnsweredLine {
     pub length: usize,
 }
 
-// Puts s into out from n on, and answers the place past it.
+// Puts s into out from n on, and answers the place past it. Byte by byte: a copy between two lent slices would have a C program bring memmove.
 fn put(out: &mut [u8], n: usize, s: &[u8]) -> usize
     requires { n + length s.now ≤ length out.old }
     ensures { Puts s.now out.old out.new n result }
 {
-    let end = n + s.len();
-    out[n..end].copy_from_slice(s);
-    end
+    for (i, b) in s.iter().enumerate() {
+        out[n + i] = *b;
+    }
+    n + s.len()
 }
 
 fn put_byte(out: &mut [u8], n: usize, b: u8) -> usize

@@ -18,7 +18,7 @@ const MOST: usize = 63;
 fn any_high(label: &[u32]) -> bool
     ensures { result ≡ any_of high label.now }
 {
-    label.iter().any(|c| 0x80 <= *c)
+    label.iter().copied().any(|c| 0x80 <= c)
 }
 
 // Puts a label of code points below 80 at the buffer's start.

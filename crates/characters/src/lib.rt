@@ -6,12 +6,12 @@
 
 mod kanji;
 
-ghost use Rattle.std.specs.Prelude.{◌≡◌, ◌+◌, ltb};
+ghost use Rattle.std.specs.Prelude.{[], ◌∷◌, ◌++◌, ◌≡◌, ◌+◌, ltb};
 ghost use Rattle.lists.specs.Tests.{pick, elem};
 ghost use Rattle.characters.specs.Characters.{alnum, ascii_set, signs_in, kind, any_kind, kanji_with, kind_with};
 ghost use Rattle.characters.specs.KanjiBits.{kanji_bits};
 ghost use Rattle.characters.specs.Replace.{class_of, replace};
-ghost use Rattle.characters.specs.Compose.{composed, one_of};
+ghost use Rattle.characters.specs.Compose.{voiced, half_voiced, composed, one_of};
 ghost use Rattle.characters.specs.Kinds.{kind_told};
 
 use kanji::KANJI;
@@ -32,16 +32,13 @@ pub fn is_ascii(c: u32) -> bool
     is_alnum(c) || c == 0x2D
 }
 
-const SIGNS: [u32; 10] = [
-    0x30FB, 0x30FD, 0x30FE, 0x309D, 0x309E, 0x4EDD, 0x3005, 0x3006, 0x3007, 0x30FC,
-];
-
 // A sign of row 1? 3003 is one in edition 1 alone.
 #[tactic(auto, using(std::proofs::lemmas::Bool::Decides::nat_tests), unfolding(crate::specs::Characters::signs, crate::specs::Characters::signs_in, lists::specs::Tests::elem, lists::specs::Tests::any_of))]
 fn is_sign(edition: u32, c: u32) -> bool
     ensures { result ≡ elem c (signs_in edition) }
 {
-    SIGNS.contains(&c) || c == 0x3003 && edition == 1
+    matches!(c, 0x3005..=0x3007 | 0x309D..=0x309E | 0x30FB..=0x30FE | 0x4EDD)
+        || c == 0x3003 && edition == 1
 }
 
 // The table of kanji to lend: a bit for each code point from 4E00 to 9FA0.
@@ -49,6 +46,14 @@ pub fn kanji_bits() -> [u32; 654]
     ensures { result ≡ kanji_bits }
 {
     KANJI
+}
+
+// The same table, lent from where it stands: a call that names it makes no copy.
+#[tactic(auto, unfolding(crate::specs::KanjiBits::kanji_bits))]
+pub fn kanji_table() -> &'static [u32]
+    ensures { result.now ≡ kanji_bits }
+{
+    &KANJI
 }
 
 // A kanji, by a lent table of bits? Any table may be lent, so a short one too.
@@ -172,32 +177,75 @@ pub fn replaced(c: u32) -> u32
     }
 }
 
-// The katakana to which mark 309B adds 1, the repeat sign the last of them; it adds 1 to each in hiragana too.
-const VOICED: [u32; 21] = [
-    0x30AB, 0x30AD, 0x30AF, 0x30B1, 0x30B3, 0x30B5, 0x30B7, 0x30B9, 0x30BB, 0x30BD, 0x30BF, 0x30C1,
-    0x30C4, 0x30C6, 0x30C8, 0x30CF, 0x30D2, 0x30D5, 0x30D8, 0x30DB, 0x30FD,
-];
-
-// Those to which mark 309C adds 2.
-const HALF_VOICED: [u32; 5] = [0x30CF, 0x30D2, 0x30D5, 0x30D8, 0x30DB];
-
-// Is b in a table of the katakana row, or what stands as far before them in the hiragana?
-fn of_either_kana(table: &[u32], b: u32) -> bool
-    ensures { result ≡ elem (pick (ltb b 0x30A1) (b + 0x60) b) table.now }
+// A katakana to which mark 309B adds 1, or the repeat sign? It adds 1 to each in hiragana too.
+#[tactic(auto, using(std::proofs::lemmas::Bool::Decides::nat_tests), unfolding(crate::specs::Compose::voiced, lists::specs::Tests::elem, lists::specs::Tests::any_of))]
+fn is_voiced(katakana: u32) -> bool
+    ensures { result ≡ elem katakana (voiced ++ 0x30FD ∷ []) }
 {
-    let katakana = if b < 0x30A1 { b + 0x60 } else { b };
-    table.contains(&katakana)
+    matches!(
+        katakana,
+        0x30AB
+            | 0x30AD
+            | 0x30AF
+            | 0x30B1
+            | 0x30B3
+            | 0x30B5
+            | 0x30B7
+            | 0x30B9
+            | 0x30BB
+            | 0x30BD
+            | 0x30BF
+            | 0x30C1
+            | 0x30C4
+            | 0x30C6
+            | 0x30C8
+            | 0x30CF
+            | 0x30D2
+            | 0x30D5
+            | 0x30D8
+            | 0x30DB
+            | 0x30FD
+    )
 }
 
-// The one character that a base and a mark become, or none where the two stay apart. The mark is tested first: few code points are one.
+// One to which mark 309C adds 2?
+#[tactic(auto, using(std::proofs::lemmas::Bool::Decides::nat_tests), unfolding(crate::specs::Compose::half_voiced, lists::specs::Tests::elem, lists::specs::Tests::any_of))]
+fn is_half_voiced(katakana: u32) -> bool
+    ensures { result ≡ elem katakana half_voiced }
+{
+    matches!(katakana, 0x30CF | 0x30D2 | 0x30D5 | 0x30D8 | 0x30DB)
+}
+
+// What stands in the katakana row as b in the hiragana; past the hiragana b itself.
+fn in_katakana(b: u32) -> u32
+    ensures { result ≡ pick (ltb b 0x30A1) (b + 0x60) b }
+{
+    if b < 0x30A1 { b + 0x60 } else { b }
+}
+
+// What a base and one of the two marks become, or nothing where they stay apart.
 #[tactic(auto, using(crate::proofs::Pairs::by_mark), unfolding(crate::specs::Compose::one_of, crate::specs::Compose::composed, crate::specs::Compose::voiced, crate::specs::Compose::half_voiced))]
-pub fn joined(base: u32, mark: u32) -> Option<u32>
+fn marked(base: u32, mark: u32) -> Option<u32>
     ensures { result ≡ one_of (composed base mark) }
 {
     match mark {
-        0x309B if of_either_kana(&VOICED, base) => Some(base + 1),
+        0x309B if is_voiced(in_katakana(base)) => Some(base + 1),
         0x309B if base == 0x30A6 => Some(0x30F4),
-        0x309C if of_either_kana(&HALF_VOICED, base) => Some(base + 2),
+        0x309C if is_half_voiced(in_katakana(base)) => Some(base + 2),
         _ => None,
+    }
+}
+
+// The one character that a base and a mark become, or none where the two stay apart. The mark is tested first, and at the place of the call:
+// few code points are one.
+#[inline(always)]
+#[tactic(auto, using(crate::proofs::Pairs::by_mark), unfolding(crate::specs::Compose::one_of, crate::specs::Compose::composed))]
+pub fn joined(base: u32, mark: u32) -> Option<u32>
+    ensures { result ≡ one_of (composed base mark) }
+{
+    if matches!(mark, 0x309B..=0x309C) {
+        marked(base, mark)
+    } else {
+        None
     }
 }

@@ -7,6 +7,7 @@ ghost use Rattle.rules.specs.Editions.{middles_in};
 ghost use Rattle.rules.specs.Hopeful.{begins};
 ghost use Rattle.endings.specs.Parts.{Computes, parts, starts_rise, starts_in};
 
+use crate::last::begins;
 use crate::prefectures::{LABELS, STARTS};
 
 // Does the test hold of one of the parts into which the starts cut the table?
@@ -49,12 +50,12 @@ fn any_middle<F: Fn(&[u32]) -> bool>(edition: u32, test: F) -> bool
 pub fn is_prefecture(edition: u32, label: &[u32]) -> bool
     ensures { result ≡ any_of (same label.now) (middles_in edition) }
 {
-    any_middle(edition, |part| label == part)
+    any_middle(edition, |part| lists::same(label, part))
 }
 
 // Does it begin one?
 pub fn begins_prefecture(edition: u32, label: &[u32]) -> bool
     ensures { result ≡ any_of (begins label.now) (middles_in edition) }
 {
-    any_middle(edition, |part| part.starts_with(label))
+    any_middle(edition, |part| begins(label, part))
 }

@@ -99,7 +99,7 @@ pub fn may_become(edition: u32, text: &[u32]) -> bool
     ensures { result ≡ hopeful (edition_of edition) text.now }
 {
     let edition = Edition {
-        kanji: &characters::kanji_bits(),
+        kanji: characters::kanji_table(),
         number: edition,
     };
     may_become_with(&edition, text)

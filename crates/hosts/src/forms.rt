@@ -65,6 +65,6 @@ pub fn to_ascii_with(kanji: &[u32], text: &[u32], out: &mut [u8]) -> Result<usiz
 pub fn to_ascii(text: &[u32], out: &mut [u8]) -> Result<usize, Refused>
     ensures { HostForms today text.now out.old out.new (filled result) }
 {
-    let kanji = characters::kanji_bits();
-    to_ascii_with(&kanji, text, out)
+    let kanji = characters::kanji_table();
+    to_ascii_with(kanji, text, out)
 }

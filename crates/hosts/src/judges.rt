@@ -56,6 +56,6 @@ pub fn judge_with(kanji: &[u32], text: &[u32]) -> Judgement<()>
 pub fn judge(text: &[u32]) -> Judgement<()>
     ensures { host_told result ≡ host_judged today text.now }
 {
-    let kanji = characters::kanji_bits();
-    judge_with(&kanji, text)
+    let kanji = characters::kanji_table();
+    judge_with(kanji, text)
 }

@@ -31,7 +31,7 @@ pub(crate) fn is_period(c: &u32) -> bool
 fn few_labels(form: &[u32]) -> bool
     ensures { result ≡ ltb (length (labels form.now)) 3 }
 {
-    form.split(is_period).count() < 3
+    form.split(is_period).take(3).count() < 3
 }
 
 // The index of the first empty label.

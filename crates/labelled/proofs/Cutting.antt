@@ -106,6 +106,11 @@ module _ (t : List ℕ) (a : ℕ) (sa : a ≡ end_from t 0) where
       unfolding ends
       is_more k = rw (← sa, lt-ltb a (length t) ka, ← sb, lt-ltb b (length t) kb, ← sd, lt-ltb d (length t) k)
 
+-- a cut that says of a form where its labels end
+pub record CutOf (t : List ℕ) : Type 0 where
+  pub cut : Cut
+  pub told : cut_told (length t) cut ≡ ends t
+
 -- so it is where the labels end
 module _ (t : List ℕ) where
   abbrev a : ℕ
@@ -148,3 +153,16 @@ module _ (t : List ℕ) where
 
       pub three_within : r ≡ Three a b → b < length t
       three_within h = (ends_at (Three a b) (rw h at e)).1
+
+-- each form has such a cut
+module _ (t : List ℕ) where
+  three_or_more_cut : a t < length t → b t < length t → CutOf t
+  three_or_more_cut ka kb =
+      ⊎_elim (λ k. record { cut = More (a t) (b t); told = is_more t (a t) refl ka (b t) refl kb (d t) refl k })
+      (λ k. record { cut = Three (a t) (b t); told = is_three t (a t) refl ka (b t) refl kb (d t) refl k }) (lt_or_le (d t) (length t))
+
+  two_or_more_cut : a t < length t → CutOf t
+  two_or_more_cut ka = ⊎_elim (three_or_more_cut ka) (λ k. record { cut = Two (a t); told = cut_two t (a t) refl ka (b t) refl k }) (lt_or_le (b t) (length t))
+
+  pub cut_of : CutOf t
+  cut_of = ⊎_elim two_or_more_cut (λ k. record { cut = One; told = cut_one t (a t) refl k }) (lt_or_le (a t) (length t))

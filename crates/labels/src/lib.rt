@@ -6,7 +6,7 @@
 mod kinds;
 
 ghost use Rattle.std.specs.Prelude.{◌≡◌, not, ◌&&◌, ◌||◌, ◌+◌, ltb, drop, position};
-ghost use Rattle.lists.specs.Tests.{pick, index_of};
+ghost use Rattle.lists.specs.Tests.{pick, index_of, elem};
 ghost use Rattle.lists.specs.Rows.{first};
 ghost use Rattle.refusals.specs.Refusals.{told};
 ghost use Rattle.rules.specs.Labels.{period};
@@ -34,7 +34,11 @@ pub fn label_end(text: &[u32], from: usize) -> usize
     ensures { result ≡ from + index_of period (drop from text.now) }
 {
     let rest = text.get(from..).unwrap_or(&[]);
-    from + rest.iter().position(|c| *c == PERIOD).unwrap_or(rest.len())
+    from + rest
+        .iter()
+        .copied()
+        .position(|c| c == PERIOD)
+        .unwrap_or(rest.len())
 }
 
 // A Japanese character?
@@ -74,7 +78,7 @@ pub fn first_unfit_with(edition: &Edition, form: &[u32]) -> Option<usize>
 pub fn holds_japanese_with(edition: &Edition, label: &[u32]) -> bool
     ensures { result ≡ is_japanese (permits edition.now) label.now }
 {
-    label.iter().any(|c| is_ja(edition, *c))
+    label.iter().copied().any(|c| is_ja(edition, c))
 }
 
 // A Japanese character other than 3006, 30FC and 30FB?
@@ -85,12 +89,20 @@ pub fn is_ordinary_with(edition: &Edition, c: u32) -> bool
     !matches!(c, 0x3006 | 0x30FC | MIDDLE_DOT) && is_ja(edition, c)
 }
 
+fn has_middle_dot(label: &[u32]) -> bool
+    ensures { result ≡ elem 0x30FB label.now }
+{
+    label.iter().copied().any(|c| c == MIDDLE_DOT)
+}
+
 // A middle dot, and no Japanese character other than the three? Asked of a label that is known to be Japanese or not: the middle dot is a
 // Japanese character, so no ASCII label has one.
 fn has_bare_dot(edition: &Edition, label: &[u32], japanese: bool) -> bool
     ensures { result ≡ (japanese && bare_dot (permits edition.now) label.now) }
 {
-    japanese && label.contains(&MIDDLE_DOT) && !label.iter().any(|c| is_ordinary_with(edition, *c))
+    japanese
+        && has_middle_dot(label)
+        && !label.iter().copied().any(|c| is_ordinary_with(edition, c))
 }
 
 // Does it begin or end with a hyphen?

@@ -2,7 +2,7 @@
 -- clauses.
 -- Assumes nothing.
 use mathlib.Core.Path.{◌≡◌, refl, sym}
-use mathlib.Core.Bool.{Bool, true, false, cond}
+use mathlib.Core.Bool.{Bool, true, false, ◌&&◌, cond}
 use mathlib.Core.List.{List, [], ◌∷◌}
 use Prim.Native.Nat.{ℕ, suc, ◌+◌}
 use native.Mathlib.Omega.{arith}
@@ -10,7 +10,8 @@ use lib.Dec.{eqb}
 use borrow.Author.Tests.{eqb-true, eq-eqb}
 use lib.Pointwise.{pointwise}
 use Rattle.std.specs.Prelude.{Some, None}
-use Rattle.std.specs.List.{list_any, list_all, position_or_len, position}
+use lib.ListN.{length}
+use Rattle.std.specs.List.{zip, list_any, list_all, position_or_len, position}
 use Rattle.std.proofs.lemmas.List.Recursion.{is_position_or_len}
 use Rattle.lists.specs.Tests.{pick, all_of, any_of, index_of, elem, same}
 use Rattle.lists.proofs.Scan.{any_first}
@@ -41,6 +42,25 @@ same_is [] [] = refl
 same_is [] (y ∷ ys) = refl
 same_is (x ∷ xs) [] = refl
 same_is (x ∷ xs) (y ∷ ys) = rw (same_is xs ys)
+
+-- two of one length are the same where each pair of entries is, and of two lengths none are
+pub zipped_is : (xs ys : List ℕ) → length xs ≡ length ys → list_all (λ p. eqb p.0 p.1) (zip xs ys) ≡ same xs ys
+unfolding same
+zipped_is [] [] e = refl
+zipped_is [] (y ∷ ys) e = absurd (omega (arith, e))
+zipped_is (x ∷ xs) [] e = absurd (omega (arith, e))
+zipped_is (x ∷ xs) (y ∷ ys) e = rw (zipped_is xs ys (omega (arith, e)))
+
+pub unlike : (a b : List ℕ) → (length a ≡ length b → ⊥) → false ≡ same a b
+unfolding same
+unlike [] [] h = absurd (h refl)
+unlike [] (y ∷ ys) h = refl
+unlike (x ∷ xs) [] h = refl
+unlike (x ∷ xs) (y ∷ ys) h = go (eqb x y) (unlike xs ys (λ e. h (omega arith)))
+  where
+    go : (t : Bool) → false ≡ same xs ys → false ≡ t && same xs ys
+    go true e = e
+    go false e = refl
 
 -- the library's `contains` asks each entry whether it is c, and `elem` c whether it is the entry
 eqb_swap : (a b : ℕ) → eqb a b ≡ eqb b a

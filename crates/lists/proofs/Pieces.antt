@@ -5,8 +5,8 @@ use mathlib.Core.List.{List, [], ◌∷◌, ◌++◌, append-nil, append_assoc}
 use Prim.Native.Nat.{ℕ, suc, ◌+◌, ◌≤◌, ◌<◌}
 use native.Mathlib.Numerals.{add-one}
 use native.Mathlib.Omega.{arith}
-use lib.ListN.{length, take, drop, set, length-append, length-drop, take-append-drop}
-use lib.Seq.{paste, take_all, take_at, drop_at, drop-drop, set_split, append_snoc, length-take-le}
+use lib.ListN.{length, take, drop, set, get_or, length-append, length-drop, take-append-drop}
+use lib.Seq.{paste, paste-suc, take_all, take_at, drop_at, drop-drop, set_split, append_snoc, length-take-le}
 use Rattle.lists.specs.Front.{written, Puts}
 
 module _ {p b₀ b₁ : List ℕ} {n m : ℕ} (x : Puts p b₀ b₁ n m) where
@@ -64,6 +64,10 @@ module _ {xs before after : List ℕ} {r : ℕ} (x : Puts xs before after 0 r) w
   puts_front = ap (take r) x.buffer ∙ take_at xs (drop r before) r (sym puts_count)
 
 -- ---- a loop that puts s entry by entry, and one entry
+
+pub put_turn : (out₀ out s : List ℕ) (n i : ℕ) → n + length s ≤ length out₀ → i < length s → out ≡ paste out₀ n s i
+    → set out (n + i) (get_or s i 0) ≡ paste out₀ n s (i + 1)
+put_turn out₀ out s n i h g e = rw (e, add-one i) (paste-suc out₀ n s i 0 (omega arith) g)
 
 pub put_all : (out₀ out s : List ℕ) (n i : ℕ) → n + length s ≤ length out₀ → i ≤ length s → length s ≤ i → out ≡ paste out₀ n s i → Puts s out₀ out n (n + i)
 put_all out₀ out s n i r h g e =

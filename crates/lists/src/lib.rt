@@ -6,11 +6,11 @@ ghost use Rattle.std.specs.Prelude.{◌≡◌, min, length, take};
 ghost use Rattle.lists.specs.Tests.{same, elem};
 ghost use Rattle.lists.specs.Front.{written};
 
-// Are the two the same?
+// Are the two the same? Entry by entry: the library's `==` of slices is quicker on long ones and several times as large, and the page loads it.
 pub fn same(a: &[u32], b: &[u32]) -> bool
     ensures { result ≡ same a.now b.now }
 {
-    a == b
+    a.len() == b.len() && a.iter().zip(b.iter()).all(|(x, y)| x == y)
 }
 
 // Is c in a small table, in any order?

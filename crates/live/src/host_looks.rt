@@ -23,7 +23,7 @@ impl Live {
     pub fn look_host(self) -> Judgement<()>
         ensures { host_told result ≡ host_looked today self }
     {
-        let kanji = characters::kanji_bits();
-        self.look_host_with(&kanji)
+        let kanji = characters::kanji_table();
+        self.look_host_with(kanji)
     }
 }

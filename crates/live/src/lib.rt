@@ -89,8 +89,8 @@ impl Live {
     pub fn look(self) -> Judgement<Accepted>
         ensures { judge_told result ≡ looked edition_of self }
     {
-        let kanji = characters::kanji_bits();
-        self.look_with(&kanji)
+        let kanji = characters::kanji_table();
+        self.look_with(kanji)
     }
 
     // May what was typed yet become a name of the edition? The table of kanji is lent.
@@ -110,7 +110,7 @@ impl Live {
     pub fn may_become(self) -> bool
         ensures { result ≡ hoped edition_of self }
     {
-        let kanji = characters::kanji_bits();
-        self.may_become_with(&kanji)
+        let kanji = characters::kanji_table();
+        self.may_become_with(kanji)
     }
 }

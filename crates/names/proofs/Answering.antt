@@ -41,17 +41,23 @@ use Rattle.names.specs.declared.judges.Ruled as code
 
 -- ---- any call that writes
 
--- `no` makes its struct of a refusal
-module _ {R : Type 0} (make : Verdict → ℕ → R) (no : Refused → R) (makes : (x : Refused) → make (refused (number_of x.why) x.place) 0 ≡ no x) (text xs before : List ℕ) where
-  refuses : (rows : List Row) (x : Refused) → first rows ≡ refusal_told x → Answers make rows text xs before before (no x)
+-- `no` makes its struct of a number and a place
+module _ {R : Type 0} (make : Verdict → ℕ → R) (no : ℕ → ℕ → R) (makes : (n p : ℕ) → (n ≡ 0 → ⊥) → make (refused n p) 0 ≡ no n p) (text xs before : List ℕ) where
+  refuses : (rows : List Row) {n p : ℕ} {r : R} → r ≡ no n p → first rows ≡ record { number = n; place = p } → (n ≡ 0 → ⊥) → Answers make rows text xs before before r
   unfolding verdict
-  refuses rows x e =
-      let h = number_not_0 x.why in
-      record { gives = gives_no _ rows xs before e h (sym (makes x) ∙ rw (ne_eqb (number_of x.why) 0 h)) }
+  refuses rows {n} {p} q e h = record { gives = gives_no _ rows xs before e h (q ∙ sym (makes n p h) ∙ rw (ne_eqb n 0 h)) }
 
-  no_room : (least : ℕ) (rest : List Row) → length before < least
+  no_room : (least : ℕ) (rest : List Row) {r : R} → r ≡ no 1 0 → length before < least → Answers make (row 1 (ltb (length before) least) 0 ∷ rest) text xs before before r
+  no_room least rest q h = refuses _ q (hit 1 (ltb (length before) least) 0 rest (lt-ltb (length before) least h)) (λ z. omega arith)
+
+-- the same where it is made of an error
+module _ {R : Type 0} (make : Verdict → ℕ → R) (no : Refused → R) (makes : (x : Refused) → make (refused (number_of x.why) x.place) 0 ≡ no x) (text xs before : List ℕ) where
+  refuses_as : (rows : List Row) (x : Refused) → first rows ≡ refusal_told x → Answers make rows text xs before before (no x)
+  refuses_as rows x e = refuses make (λ n p. make (refused n p) 0) (λ n p z. refl) text xs before rows (sym (makes x)) e (number_not_0 x.why)
+
+  no_room_as : (least : ℕ) (rest : List Row) → length before < least
       → Answers make (row 1 (ltb (length before) least) 0 ∷ rest) text xs before before (no (record { why = NoRoom; place = 0 }))
-  no_room least rest h = refuses _ (record { why = NoRoom; place = 0 }) (hit 1 (ltb (length before) least) 0 rest (lt-ltb (length before) least h))
+  no_room_as least rest h = no_room make (λ n p. make (refused n p) 0) (λ n p z. refl) text xs before least rest (sym (makes (record { why = NoRoom; place = 0 }))) h
 
 answers_yes : {R : Type 0} (make : Verdict → ℕ → R) (rows : List Row) (text xs before : List ℕ) {k : Class} {n : ℕ} {after : List ℕ}
     → first rows ≡ record { number = 0; place = 0 } → k ≡ class_of (labels (normal_form text)) → n ≡ length xs → after ≡ written xs before
@@ -117,7 +123,7 @@ module _ (P : Permits) (text : List ℕ) {lent after : List ℕ} {r : code.Ruled
 module _ (P : Permits) (text before : List ℕ) where
   pub check_no_room : length before < 256 → Checks P text before before (refused_check 1 0)
   unfolding check_rows
-  check_no_room = no_room (checked _) (λ x. check_told (Err x)) (no_places_said _) text _ before 256 (text_rows P text)
+  check_no_room = no_room_as (checked _) (λ x. check_told (Err x)) (no_places_said _) text _ before 256 (text_rows P text)
 
   module _ (h : 256 ≤ length before) where
     checking : first (check_rows P text (length before)) ≡ first (text_rows P text)
@@ -125,7 +131,7 @@ module _ (P : Permits) (text before : List ℕ) where
     checking = passed_over 1 (ltb (length before) 256) 0 _ (le-ltb (length before) 256 h)
 
     check_no : (x : Refused) → first (text_rows P text) ≡ refusal_told x → Checks P text before before (check_told (Err x))
-    check_no x e = refuses (checked _) (λ y. check_told (Err y)) (no_places_said _) text _ before _ x (checking ∙ e)
+    check_no x e = refuses_as (checked _) (λ y. check_told (Err y)) (no_places_said _) text _ before _ x (checking ∙ e)
 
     -- 25, with a number that is no edition
     pub check_25 : P.known ≡ false → Checks P text before before (refused_check 25 0)
@@ -149,11 +155,11 @@ module _ (P : Permits) (text before : List ℕ) where
 
 module _ (P : Permits) (text before : List ℕ) where
   form_no : (x : Refused) → first (ascii_rows P text (length before)) ≡ refusal_told x → AsciiForms P text before before (ascii_told (Err x))
-  form_no = refuses (ascii_formed P _) (λ x. ascii_told (Err x)) (no_kinds_said P _) text _ before _
+  form_no = refuses_as (ascii_formed P _) (λ x. ascii_told (Err x)) (no_kinds_said P _) text _ before _
 
   pub ascii_no_room : length before < 192 → AsciiForms P text before before (refused_form 1 0)
   unfolding ascii_rows
-  ascii_no_room = no_room (ascii_formed P _) (λ x. ascii_told (Err x)) (no_kinds_said P _) text _ before 192 _
+  ascii_no_room = no_room_as (ascii_formed P _) (λ x. ascii_told (Err x)) (no_kinds_said P _) text _ before 192 _
 
   module _ (h : 192 ≤ length before) where
     encoding : first (ascii_rows P text (length before)) ≡ first (text_rows P text ++ row 14 (any_of (uncoded P) (labels (normal_form text))) 0 ∷ [])

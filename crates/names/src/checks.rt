@@ -30,9 +30,9 @@ pub fn check_with(edition: &Edition, text: &[u32], out: &mut [u32]) -> Result<Fo
 pub fn check(edition: u32, text: &[u32], out: &mut [u32]) -> Result<Formed, Refused>
     ensures { Checks (edition_of edition) text.now out.old out.new (check_told result) }
 {
-    let kanji = characters::kanji_bits();
+    let kanji = characters::kanji_table();
     let edition = Edition {
-        kanji: &kanji,
+        kanji,
         number: edition,
     };
     check_with(&edition, text, out)

@@ -78,9 +78,9 @@ pub fn judge_with(edition: &Edition, text: &[u32]) -> Judgement<Accepted>
 pub fn judge(edition: u32, text: &[u32]) -> Judgement<Accepted>
     ensures { judge_told result ≡ judged (edition_of edition) text.now }
 {
-    let kanji = characters::kanji_bits();
+    let kanji = characters::kanji_table();
     let edition = Edition {
-        kanji: &kanji,
+        kanji,
         number: edition,
     };
     judge_with(&edition, text)

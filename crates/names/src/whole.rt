@@ -106,9 +106,9 @@ pub fn to_ascii_with(edition: &Edition, text: &[u32], out: &mut [u8]) -> Result<
 pub fn to_ascii(edition: u32, text: &[u32], out: &mut [u8]) -> Result<AsciiName, Refused>
     ensures { AsciiForms (edition_of edition) text.now out.old out.new (ascii_told result) }
 {
-    let kanji = characters::kanji_bits();
+    let kanji = characters::kanji_table();
     let edition = Edition {
-        kanji: &kanji,
+        kanji,
         number: edition,
     };
     to_ascii_with(&edition, text, out)

@@ -1,4 +1,5 @@
 // The calls on single characters.
+use crate::printed::put_gap;
 use characters::{Edition, Kind, Replacement};
 use std::io;
 use std::io::Write;
@@ -45,7 +46,7 @@ fn put_said(out: &mut impl Write, edition: &Edition, c: u32, next: u32) -> io::R
 pub(crate) fn kinds(out: &mut impl Write, edition: &Edition, numbers: &[u32]) -> io::Result<()> {
     for (i, c) in numbers.iter().enumerate() {
         if i > 0 {
-            write!(out, " ")?;
+            put_gap(out)?;
         }
         let next = numbers.get(i + 1).copied().unwrap_or(0);
         put_said(out, edition, *c, next)?;

@@ -1,5 +1,5 @@
 // The calls on one label.
-use crate::printed::{Said, put_flag, put_kinds, put_malformed};
+use crate::printed::{Said, put_flag, put_gap, put_kinds, put_length, put_malformed};
 use characters::Edition;
 use rules::Asks;
 use std::io;
@@ -15,19 +15,22 @@ fn of_halves(upper: u32, lower: u32) -> usize {
 fn put_held(out: &mut impl Write, edition: &Edition, label: &[u32], from: usize) -> io::Result<()> {
     let end = labels::label_end(label, from);
     let unfit = labels::first_unfit_with(edition, label).unwrap_or(label.len());
-    let japanese = u8::from(labels::holds_japanese_with(edition, label));
-    let held = labels::held_with(edition, label);
-    let fit = u8::from(held.is_some());
-    write!(out, " {end} {unfit} {japanese} {fit}")?;
-    match held {
-        Some(kinds) => put_kinds(out, kinds),
-        None => out.write_all(b"-"),
+    put_length(out, end)?;
+    put_length(out, unfit)?;
+    put_gap(out)?;
+    put_flag(out, labels::holds_japanese_with(edition, label))?;
+    match labels::held_with(edition, label) {
+        Some(kinds) => {
+            out.write_all(b" 1")?;
+            put_kinds(out, kinds)
+        }
+        None => out.write_all(b" 0-"),
     }
 }
 
 // A space and four flags: is the label "jp", does it begin that, is it a prefecture label, does it begin one?
 fn put_endings(out: &mut impl Write, edition: u32, label: &[u32]) -> io::Result<()> {
-    write!(out, " ")?;
+    put_gap(out)?;
     put_flag(out, endings::is_jp(label))?;
     put_flag(out, endings::begins_jp(label))?;
     put_flag(out, endings::is_prefecture(edition, label))?;
@@ -37,7 +40,7 @@ fn put_endings(out: &mut impl Write, edition: u32, label: &[u32]) -> io::Result<
 // For each character a space and two flags: may a label hold it, and is it an ordinary one?
 fn put_characters(out: &mut impl Write, edition: &Edition, label: &[u32]) -> io::Result<()> {
     for c in label {
-        write!(out, " ")?;
+        put_gap(out)?;
         put_flag(out, labels::in_label_with(edition, *c))?;
         put_flag(out, labels::is_ordinary_with(edition, *c))?;
     }
@@ -64,7 +67,7 @@ pub(crate) fn one_label(
     labels::label_rule_with(edition, label, asks, at).put(out)?;
     put_held(out, edition, label, of_halves(*a, *b))?;
     for japanese in [true, false] {
-        write!(out, " ")?;
+        put_gap(out)?;
         labels::known_rule_with(edition, label, japanese, asks, at).put(out)?;
     }
     put_endings(out, edition.number, label)?;

@@ -1,7 +1,7 @@
 // The lent buffers: what stands in one before a call, and what of it a call changed.
-use std::alloc::{AllocError, Global};
+use crate::printed::put_number;
+use std::io;
 use std::io::Write;
-use std::{array, io};
 
 // What a buffer lends: code points or octets.
 pub(crate) trait Entry: Copy + PartialEq + Into<u32> {
@@ -28,11 +28,11 @@ pub(crate) fn fill<T: Entry>(lent: &mut [T]) {
     }
 }
 
-// A buffer to lend.
-pub(crate) fn filled<T: Entry>(alloc: Global, room: usize) -> Result<Vec<T>, AllocError> {
-    let mut buffer = vec![in alloc; T::before(0); room]?;
-    fill(buffer.as_mut_slice());
-    Ok(buffer)
+// Memory to lend.
+pub(crate) fn filled<T: Entry, const N: usize>() -> [T; N] {
+    let mut lent = [T::before(0); N];
+    fill(&mut lent);
+    lent
 }
 
 // The entries up to the last one that was changed, a space before each, and - for one that holds what it held before.
@@ -47,7 +47,7 @@ pub(crate) fn put_changed<T: Entry>(out: &mut impl Write, lent: &[T]) -> io::Res
             out.write_all(b" -")?;
         } else {
             let number: u32 = (*x).into();
-            write!(out, " {number:x}")?;
+            put_number(out, number)?;
         }
     }
     Ok(())

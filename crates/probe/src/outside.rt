@@ -1,7 +1,7 @@
 // O, Y: the calls of the outside, on code points and on octets; LEN says which. The lent memory is what each asks for, filled before.
 use crate::lent;
 use crate::lent::Entry;
-use crate::printed::{put_malformed, put_numbers, put_shown};
+use crate::printed::{put_decimal, put_hex, put_malformed, put_number, put_numbers, put_shown};
 use sagebasket::coding::{sagebasket_decode, sagebasket_encode};
 use sagebasket::naming::{
     sagebasket_acceptable, sagebasket_check, sagebasket_host_to_ascii, sagebasket_is_edition,
@@ -27,9 +27,7 @@ trait Lent: Drop {
 
 impl<T: Entry, const N: usize> Lent for [T; N] {
     fn filled() -> [T; N] {
-        let mut lent = [T::before(0); N];
-        lent::fill(&mut lent);
-        lent
+        lent::filled()
     }
 
     fn put_changed(&self, out: &mut impl Write) -> io::Result<()> {
@@ -46,7 +44,7 @@ fn told<L: Lent, W: Write, F: FnOnce(&mut L, &mut [u32; 12]) -> u32>(
 {
     let mut lent = L::filled();
     let mut answer: [u32; 12] = Lent::filled();
-    write!(out, "{:x}", call(&mut lent, &mut answer))?;
+    put_hex(out, call(&mut lent, &mut answer))?;
     put_numbers(out, &answer)?;
     Ok(lent)
 }
@@ -85,7 +83,7 @@ fn typed(edition: u32, text: &[u32]) -> [u32; 258] {
 
 // How many numbers the state has, and these.
 fn put_state(out: &mut impl Write, state: &[u32; 258]) -> io::Result<()> {
-    write!(out, "{}", state.len())?;
+    put_decimal(out, state.len())?;
     put_shown(out, state)
 }
 
@@ -93,7 +91,8 @@ fn put_state(out: &mut impl Write, state: &[u32; 258]) -> io::Result<()> {
 fn put_acceptable(out: &mut impl Write, text: &[u32]) -> io::Result<()> {
     let mut read = 0xAAAAAAAA;
     let yes = sagebasket_acceptable(text, &mut read);
-    write!(out, "{yes:x} {read:x}")
+    put_hex(out, yes)?;
+    put_number(out, read)
 }
 
 // A call on the state that the code points lead to.
@@ -107,7 +106,7 @@ fn on_state(out: &mut impl Write, which: usize, state: &[u32; 258]) -> io::Resul
             out,
             |form, answer| sagebasket_live_look_host(state, form, answer),
         ),
-        7 => write!(out, "{:x}", sagebasket_live_may_become(state)),
+        7 => put_hex(out, sagebasket_live_may_become(state)),
         8 => put_told(
             out,
             |ascii, answer| sagebasket_live_to_ascii(state, ascii, answer),
@@ -136,14 +135,14 @@ pub(crate) fn on_points(
             out,
             |ascii, answer| sagebasket_to_ascii(edition, text, ascii, answer),
         ),
-        2 => write!(out, "{:x}", sagebasket_may_become(edition, text)),
+        2 => put_hex(out, sagebasket_may_become(edition, text)),
         3 => put_told(
             out,
             |ascii, answer| sagebasket_host_to_ascii(text, ascii, answer),
         ),
         4 => put_told(out, |ascii, answer| sagebasket_encode(text, ascii, answer)),
         5..=10 => on_state(out, which, &typed(edition, text)),
-        11 => write!(out, "{:x}", sagebasket_is_edition(edition)),
+        11 => put_hex(out, sagebasket_is_edition(edition)),
         12 => put_acceptable(out, text),
         _ => put_malformed(out),
     }
@@ -152,7 +151,7 @@ pub(crate) fn on_points(
 // The length of the answer to a line, and the answer.
 fn put_line(out: &mut impl Write, octets: &[u8]) -> io::Result<()> {
     let mut reply = <[u8; 256]>::filled();
-    write!(out, "{:x}", sagebasket_line(octets, &mut reply))?;
+    put_hex(out, sagebasket_line(octets, &mut reply))?;
     reply.put_changed(out)
 }
 

@@ -1,4 +1,6 @@
 // What an answer is printed of.
+ghost use Rattle.std.specs.Prelude.{◌<◌, ◌≤◌};
+
 use fronts::{Front, Judgement};
 use names::{Accepted, AsciiName, Formed};
 use refusals::Refused;
@@ -7,9 +9,67 @@ use searches::Searched;
 use std::io;
 use std::io::Write;
 
+// How a digit is written.
+const DIGITS: [u8; 16] = *b"0123456789abcdef";
+
+// The digits of x in a base at the end of a text of spaces, and where they begin: 20 are enough from base 10 on. Most of what is printed are
+// numbers, and `write!` is slow at them.
+fn digits(x: u64, base: u64) -> ([u8; 21], usize)
+    requires { (10 ≤ base) × (base ≤ 16) }
+    ensures { (0 < result.1) × (result.1 ≤ 20) }
+{
+    let mut text = [b' '; 21];
+    let mut rest = x;
+    let first = text.iter_mut().skip(1).rposition(
+        |digit|
+            requires { (10 ≤ base) × (base ≤ 16) }
+        {
+            *digit = DIGITS[(rest % base) as usize];
+            rest /= base;
+            rest == 0
+        },
+    );
+    (text, first.map_or(1, |i| i + 1))
+}
+
+// x in decimal.
+pub(crate) fn put_decimal(out: &mut impl Write, x: usize) -> io::Result<()> {
+    let (text, first) = digits(x as u64, 10);
+    out.write_all(&text[first..])
+}
+
+// x in hexadecimal.
+pub(crate) fn put_hex(out: &mut impl Write, x: u32) -> io::Result<()> {
+    let (text, first) = digits(u64::from(x), 16);
+    out.write_all(&text[first..])
+}
+
+// A space, and x in decimal.
+pub(crate) fn put_length(out: &mut impl Write, x: usize) -> io::Result<()> {
+    let (text, first) = digits(x as u64, 10);
+    out.write_all(&text[first - 1..])
+}
+
+// A space, and x in hexadecimal.
+pub(crate) fn put_number(out: &mut impl Write, x: u32) -> io::Result<()> {
+    let (text, first) = digits(u64::from(x), 16);
+    out.write_all(&text[first - 1..])
+}
+
 // A line that is no case.
 pub(crate) fn put_malformed(out: &mut impl Write) -> io::Result<()> {
     out.write_all(b"?")
+}
+
+// A space before what is not the first of several.
+pub(crate) fn put_gap(out: &mut impl Write) -> io::Result<()> {
+    out.write_all(b" ")
+}
+
+// A comma, and x in decimal.
+fn put_after_comma(out: &mut impl Write, x: usize) -> io::Result<()> {
+    out.write_all(b",")?;
+    put_decimal(out, x)
 }
 
 // 1 or 0.
@@ -20,7 +80,7 @@ pub(crate) fn put_flag(out: &mut impl Write, yes: bool) -> io::Result<()> {
 // Numbers in hexadecimal, a space before each.
 pub(crate) fn put_numbers(out: &mut impl Write, numbers: &[u32]) -> io::Result<()> {
     for x in numbers {
-        write!(out, " {x:x}")?;
+        put_number(out, *x)?;
     }
     Ok(())
 }
@@ -50,11 +110,12 @@ pub(crate) fn put_kinds(out: &mut impl Write, kinds: Kinds) -> io::Result<()> {
     out.write_all(b"-")
 }
 
-fn class_letter(class: Class) -> char {
-    match class {
-        Class::General => 'G',
-        Class::Prefecture => 'P',
-    }
+// A space and the class.
+fn put_class(out: &mut impl Write, class: Class) -> io::Result<()> {
+    out.write_all(match class {
+        Class::General => b" G",
+        Class::Prefecture => b" P",
+    })
 }
 
 // What a call tells of what it accepts: its words, a space before each. ABSENT is what stands in their place where it refuses.
@@ -77,7 +138,7 @@ impl Told for usize {
     const ABSENT: &'static str = " 0";
 
     fn put_words(&self, out: &mut impl Write) -> io::Result<()> {
-        write!(out, " {self}")
+        put_length(out, *self)
     }
 }
 
@@ -87,9 +148,11 @@ impl Told for Accepted {
 
     fn put_words(&self, out: &mut impl Write) -> io::Result<()> {
         let labels = self.labels;
-        write!(out, " {} {}", class_letter(self.class), labels.count)?;
+        put_class(out, self.class)?;
+        put_length(out, labels.count)?;
         for (start, length) in labels.starts.iter().zip(&labels.lengths) {
-            write!(out, ",{start},{length}")?;
+            put_after_comma(out, *start)?;
+            put_after_comma(out, *length)?;
         }
         Ok(())
     }
@@ -102,7 +165,7 @@ impl Told for Formed {
     fn put_words(&self, out: &mut impl Write) -> io::Result<()> {
         let Formed { class, labels, .. } = *self;
         Accepted { class, labels }.put_words(out)?;
-        write!(out, " {}", self.length)
+        put_length(out, self.length)
     }
 }
 
@@ -111,9 +174,10 @@ impl Told for AsciiName {
     const ABSENT: &'static str = " - - 0";
 
     fn put_words(&self, out: &mut impl Write) -> io::Result<()> {
-        write!(out, " {} ", class_letter(self.class))?;
+        put_class(out, self.class)?;
+        put_gap(out)?;
         put_kinds(out, self.kinds)?;
-        write!(out, " {}", self.length)
+        put_length(out, self.length)
     }
 }
 
@@ -122,7 +186,8 @@ impl Told for Front {
     const ABSENT: &'static str = " 0 0 0";
 
     fn put_words(&self, out: &mut impl Write) -> io::Result<()> {
-        write!(out, " {} ", self.length)?;
+        put_length(out, self.length)?;
+        put_gap(out)?;
         self.unfit.put(out)
     }
 }
@@ -142,7 +207,9 @@ impl<T: Told> Said for Result<T, Refused> {
             }
             Err(refused) => {
                 let number = u8::from(refused.why);
-                write!(out, "{number} {}{}", refused.place, T::ABSENT)
+                put_decimal(out, usize::from(number))?;
+                put_length(out, refused.place)?;
+                out.write_all(T::ABSENT.as_bytes())
             }
         }
     }
@@ -151,14 +218,16 @@ impl<T: Told> Said for Result<T, Refused> {
 // Is there a number, and which? 0 where there is none.
 impl Said for Option<usize> {
     fn put(&self, out: &mut impl Write) -> io::Result<()> {
-        write!(out, "{} {}", u8::from(self.is_some()), self.unwrap_or(0))
+        put_flag(out, self.is_some())?;
+        put_length(out, self.unwrap_or(0))
     }
 }
 
 // The same, with a number always.
 impl Said for Searched {
     fn put(&self, out: &mut impl Write) -> io::Result<()> {
-        write!(out, "{} {}", u8::from(self.yes), self.read)
+        put_flag(out, self.yes)?;
+        put_length(out, self.read)
     }
 }
 
@@ -166,7 +235,7 @@ impl Said for Searched {
 impl<T: Told> Said for Judgement<T> {
     fn put(&self, out: &mut impl Write) -> io::Result<()> {
         self.said.put(out)?;
-        write!(out, " {}", self.length)?;
+        put_length(out, self.length)?;
         put_shown(out, &self.form)
     }
 }

@@ -1,5 +1,5 @@
 // The calls that take their input bit by bit: the live check and the batch.
-use crate::printed::put_flag;
+use crate::printed::{put_flag, put_gap, put_hex};
 use characters::Edition;
 use live::Live;
 use std::io;
@@ -23,7 +23,7 @@ pub(crate) fn hope(out: &mut impl Write, edition: &Edition, text: &[u32]) -> io:
         state = state.step(*c);
         put_flag(out, state.may_become_with(kanji))?;
     }
-    write!(out, " ")?;
+    put_gap(out)?;
     put_flag(out, hopes::may_become_with(edition, text))?;
     put_flag(out, hopes::may_become(number, text))?;
     put_flag(out, state.may_become())
@@ -33,7 +33,7 @@ pub(crate) fn hope(out: &mut impl Write, edition: &Edition, text: &[u32]) -> io:
 fn put_reply(out: &mut impl Write, reply: &[u8], n: usize, gap: &mut &[u8]) -> io::Result<()> {
     for b in reply.iter().take(n) {
         out.write_all(gap)?;
-        write!(out, "{b:x}")?;
+        put_hex(out, u32::from(*b))?;
         *gap = b" ";
     }
     Ok(())

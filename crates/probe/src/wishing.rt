@@ -1,5 +1,5 @@
 // w, o: first and second wish, by the calls on two texts and by the outside's. The second text begins at index LEN.
-use crate::printed::{Said, put_numbers};
+use crate::printed::{Said, put_decimal, put_gap, put_hex, put_length, put_numbers};
 use std::io;
 use std::io::Write;
 use wishes::Wishes;
@@ -7,11 +7,12 @@ use wishes::Wishes;
 // Which wish won, number and place of both checks, how long the part is, and its code points.
 fn put_wished(out: &mut impl Write, said: Wishes, part: &[u32]) -> io::Result<()> {
     let won = said.won.map_or(0, |wish| u8::from(wish));
-    write!(out, "{won} ")?;
+    put_decimal(out, usize::from(won))?;
+    put_gap(out)?;
     said.first.put(out)?;
-    write!(out, " ")?;
+    put_gap(out)?;
     said.second.put(out)?;
-    write!(out, " {}", part.len())?;
+    put_length(out, part.len())?;
     put_numbers(out, part)
 }
 
@@ -25,12 +26,12 @@ pub(crate) fn wishes(
     let (first, second) = numbers.split_at(at.min(numbers.len()));
     let part = wishes::wished_part_with(kanji, first, second);
     put_wished(out, wishes::which_won_with(kanji, first, second), part)?;
-    write!(out, " / ")?;
+    out.write_all(b" / ")?;
     let part = wishes::wished_part(first, second);
     put_wished(out, wishes::which_won(first, second), part)?;
-    write!(out, " /")?;
+    out.write_all(b" /")?;
     for won in [0, 1, 2, 255] {
-        write!(out, " {}", wishes::handed_length(won, first, second))?;
+        put_length(out, wishes::handed_length(won, first, second))?;
     }
     Ok(())
 }
@@ -40,6 +41,6 @@ pub(crate) fn told(out: &mut impl Write, numbers: &[u32], at: usize) -> io::Resu
     let (first, second) = numbers.split_at(at.min(numbers.len()));
     let mut answer = [0xAAAAAAAAu32; 6];
     let won = sagebasket::naming::sagebasket_wish(first, second, &mut answer);
-    write!(out, "{won:x}")?;
+    put_hex(out, won)?;
     put_numbers(out, &answer)
 }

@@ -16,7 +16,10 @@ use Rattle.lists.specs.Front.{written}
 use Rattle.lists.specs.Tests.{pick, all_of}
 use Rattle.punycode.specs.Calls.{coder_number, coder_writes, Encodes, lower, Encoding, DecoderSays, small, taken, left, decoder_answers, Decodes}
 use Rattle.punycode.specs.Punycode.{alnum, ldh, encodable, ace}
-use Rattle.refusals.specs.Refusals.{Filled}
+use Rattle.std.specs.Prelude.{Result}
+use Rattle.refusals.specs.Refusals.{Filled, filled}
+use Rattle.refusals.specs.declared.Refused.{Refused}
+use Rattle.refusals.proofs.Once.{filled_once}
 use Rattle.punycode.proofs.Rungs.{lower_other}
 use Rattle.punycode.proofs.Theorems.{ace_ldh, ace_injective}
 
@@ -47,6 +50,14 @@ module _ {octets before after after' : List ℕ} {r r' : Filled} where
         u.buffer ∙ ap (λ x. written x before) e.1 ∙ sym v.buffer,
         u.answer ∙ (λ i. decoder_answers (e.0 i) (e.1 i)) ∙ sym v.answer,
       )
+
+-- and so of what the two calls themselves answer
+module _ {before after after' : List ℕ} {r s : Result ℕ Refused} where
+  pub encoded_once : {label : List ℕ} → Encodes label before after (filled r) → Encodes label before after' (filled s) → (after ≡ after') × (r ≡ s)
+  encoded_once u v = let o = encodes_once u v in (o.0, filled_once r s o.1)
+
+  pub decoded_once : {octets : List ℕ} → Decodes octets before after (filled r) → Decodes octets before after' (filled s) → (after ≡ after') × (r ≡ s)
+  decoded_once u v = let o = decodes_once u v in (o.0, filled_once r s o.1)
 
 -- ---- there and back
 

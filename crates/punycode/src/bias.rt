@@ -28,7 +28,7 @@ const SLOPE: u32 = SPAN + 1;
 pub(crate) const LIMIT: u32 = 0x110000;
 
 // 64 times the limit: above every delta of a label that is encoded.
-pub(crate) const BOUND: u64 = 0x4400000;
+pub(crate) const BOUND: u32 = 0x4400000;
 
 #[tactic(auto, unfolding(crate::specs::Punycode::threshold))]
 pub(crate) fn threshold(k: u32, bias: u32) -> u32

@@ -65,17 +65,28 @@ fn place(s: Reader, i: u32, out: &mut [u32; 64]) -> Option<Reader>
     })
 }
 
+// i and the weight of a digit, where that is below the bound. A weight below it is multiplied by 35 at most, so 32 bits hold each step.
+fn moved(i: u32, d: u32, w: u32) -> Option<u32>
+    requires { (i < 0x4400000) × (d < 36) }
+    ensures { MatchOption result (0x4400000 ≤ i + d * w) (λ r. (r ≡ i + d * w) × (r < 0x4400000)) }
+{
+    if d == 0 {
+        return Some(i);
+    }
+    if w >= BOUND {
+        return None;
+    }
+    let sum = i + d * w;
+    (sum < BOUND).then_some(sum)
+}
+
 fn octet(c: u8, s: Reader, out: &mut [u32; 64]) -> Option<Reader>
     requires { Bounded s × (s.len < 63) × (s.k < 0x10000) }
     ensures { IfSome result (λ r. Bounded r × (r.len ≤ s.len + 1) × (r.k ≤ s.k + 36))
         × (read result out.new ≡ Decoding.octet c (read (Some s) out.old)) }
 {
     let d = value(c)?;
-    let i = u64::from(s.i) + u64::from(d) * u64::from(s.w);
-    if i >= BOUND {
-        return None;
-    }
-    let i = i as u32;
+    let i = moved(s.i, d, s.w)?;
     let t = threshold(s.k, s.bias);
     if d < t {
         return place(s, i, out);

@@ -109,6 +109,6 @@ pub fn reads_with(kanji: &[u32], label: &[u32]) -> bool
 pub fn reads(label: &[u32]) -> bool
     ensures { result ≡ reader today label.now }
 {
-    let kanji = characters::kanji_bits();
-    reads_with(&kanji, label)
+    let kanji = characters::kanji_table();
+    reads_with(kanji, label)
 }

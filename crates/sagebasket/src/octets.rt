@@ -84,6 +84,6 @@ pub extern "C" fn sagebasket_host_to_ascii_utf8(
 pub extern "C" fn sagebasket_line(line: &[u8], out: &mut [u8; 256]) -> u32
     ensures { Puts (answer_to today line.now) out.old out.new 0 result }
 {
-    let kanji = characters::kanji_bits();
-    answer::answer_with(&kanji, line, out).unwrap_or(0) as u32
+    let kanji = characters::kanji_table();
+    answer::answer_with(kanji, line, out).unwrap_or(0) as u32
 }

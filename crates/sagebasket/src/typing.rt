@@ -9,6 +9,7 @@ ghost use Rattle.sagebasket.specs.Outside.{flag, held, held_text, of_judged, of_
 
 use crate::numbers::{NO_KINDS, tell_length, tell_name, tell_refusal};
 use crate::telling::{tell_ascii, tell_host};
+use characters::Edition;
 
 // It has read nothing, and is given its edition, any number.
 #[unsafe(no_mangle)]
@@ -49,7 +50,11 @@ pub extern "C" fn sagebasket_live_look(
 ) -> u32
     ensures { Shows (of_judged (looked edition_of (held state.now))) (looked edition_of (held state.now)).form form.new answer.new result }
 {
-    let judged = names::judge(state[257], typed(state));
+    let edition = Edition {
+        kanji: characters::kanji_table(),
+        number: state[257],
+    };
+    let judged = names::judge_with(&edition, typed(state));
     let shown = judged.form;
     *form = shown;
     match judged.said {
@@ -67,7 +72,7 @@ pub extern "C" fn sagebasket_live_look_host(
 ) -> u32
     ensures { Shows (of_host_judged (host_looked today (held state.now))) (host_looked today (held state.now)).form form.new answer.new result }
 {
-    let judged = hosts::judge(typed(state));
+    let judged = hosts::judge_with(characters::kanji_table(), typed(state));
     let shown = judged.form;
     *form = shown;
     match judged.said {

@@ -130,9 +130,9 @@ pub fn acceptable(text: &[u32]) -> Searched
             };
         }
     }
-    let kanji = characters::kanji_bits();
+    let kanji = characters::kanji_table();
     let edition = Edition {
-        kanji: &kanji,
+        kanji,
         number: IN_FORCE,
     };
     let stop = match stop {

@@ -85,8 +85,8 @@ pub fn which_won_with(kanji: &[u32], first: &[u32], second: &[u32]) -> Wishes
 pub fn which_won(first: &[u32], second: &[u32]) -> Wishes
     ensures { wishes_told result ≡ wished today first.now second.now }
 {
-    let kanji = characters::kanji_bits();
-    which_won_with(&kanji, first, second)
+    let kanji = characters::kanji_table();
+    which_won_with(kanji, first, second)
 }
 
 // How many code points stand before the first separator of a text, as it was typed; all where there is none. A separator is what a period
@@ -136,6 +136,6 @@ pub fn wished_part_with<'a>(kanji: &[u32], first: &'a [u32], second: &'a [u32]) 
 pub fn wished_part<'a>(first: &'a [u32], second: &'a [u32]) -> &'a [u32]
     ensures { Hands today first.entry second.entry result }
 {
-    let kanji = characters::kanji_bits();
-    wished_part_with(&kanji, first, second)
+    let kanji = characters::kanji_table();
+    wished_part_with(kanji, first, second)
 }

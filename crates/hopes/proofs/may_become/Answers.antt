@@ -7,4 +7,4 @@ use Rattle.rules.proofs.Editions.{lending}
 use Rattle.hopes.proofs.may_become.Goals as goal
 
 pub returns : goal.returns
-returns c = lending (λ (P : Permits). c.may_become_with.result ≡ hopeful P c.args.text.now) _ c.kanji_bits.ensures c.may_become_with.ensures
+returns c = lending (λ (P : Permits). c.may_become_with.result ≡ hopeful P c.args.text.now) _ c.kanji_table.ensures c.may_become_with.ensures

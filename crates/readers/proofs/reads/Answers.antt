@@ -7,4 +7,4 @@ use Rattle.rules.proofs.Editions.{lending}
 use Rattle.readers.proofs.reads.Goals as goal
 
 pub returns : goal.returns
-returns c = lending (λ (P : Permits). c.reads_with.result ≡ reader P c.args.label.now) 4 c.kanji_bits-kanji.ensures c.reads_with.ensures
+returns c = lending (λ (P : Permits). c.reads_with.result ≡ reader P c.args.label.now) 4 c.kanji_table-kanji.ensures c.reads_with.ensures

@@ -28,7 +28,7 @@ returns-then-not-may_be_kanji c =
 
 pub answered-requires : goal.answered-requires
 answered-requires c =
-    let table = c.kanji_bits-kanji.result in
+    let table = c.kanji_table-kanji.result.now in
     let text = c.args.text.now in
     let e : c.match-stop.stop ≡ c.first_stop-stop.result =
     elim c.match-stop.branch [ in-Some+else-not-may_be_kanji w ↦ w.stop-is ∙ sym w.in-Some.is | in_default w ↦ w.stop-is ] in
@@ -42,4 +42,4 @@ answered-requires c =
     }
 
 pub returns : goal.returns
-returns c = lending (λ (P : Permits). c.answered.result ≡ searched P c.args.text.now) 4 c.kanji_bits-kanji.ensures c.answered.ensures
+returns c = lending (λ (P : Permits). c.answered.result ≡ searched P c.args.text.now) 4 c.kanji_table-kanji.ensures c.answered.ensures

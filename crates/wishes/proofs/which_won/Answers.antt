@@ -10,4 +10,4 @@ pub returns : goal.returns
 returns c =
     let a = c.args in
     let r = c.which_won_with in
-    lending (λ (P : Permits). wishes_told r.result ≡ wished P a.first.now a.second.now) 4 c.kanji_bits-kanji.ensures r.ensures
+    lending (λ (P : Permits). wishes_told r.result ≡ wished P a.first.now a.second.now) 4 c.kanji_table-kanji.ensures r.ensures

@@ -9,4 +9,4 @@ pub returns : goal.returns
 returns c =
     let a = c.args in
     let r = c.wished_part_with in
-    lending (λ (P : Permits). Hands P a.first a.second r.result) 4 c.kanji_bits-kanji.ensures r.ensures
+    lending (λ (P : Permits). Hands P a.first a.second r.result) 4 c.kanji_table-kanji.ensures r.ensures

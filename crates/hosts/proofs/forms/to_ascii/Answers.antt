@@ -10,4 +10,4 @@ pub returns : goal.returns
 returns c =
     let a = c.args in
     let r = c.to_ascii_with in
-    lending (λ (P : Permits). HostForms P a.text.now a.out.now r.new.out (filled r.result)) 4 c.kanji_bits-kanji.ensures r.ensures
+    lending (λ (P : Permits). HostForms P a.text.now a.out.now r.new.out (filled r.result)) 4 c.kanji_table-kanji.ensures r.ensures

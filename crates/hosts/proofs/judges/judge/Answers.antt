@@ -7,4 +7,4 @@ use Rattle.rules.proofs.Editions.{lending}
 use Rattle.hosts.proofs.judges.judge.Goals as goal
 
 pub returns : goal.returns
-returns c = lending (λ (P : Permits). host_told c.judge_with.result ≡ host_judged P c.args.text.now) 4 c.kanji_bits-kanji.ensures c.judge_with.ensures
+returns c = lending (λ (P : Permits). host_told c.judge_with.result ≡ host_judged P c.args.text.now) 4 c.kanji_table-kanji.ensures c.judge_with.ensures

@@ -9,4 +9,4 @@ use Rattle.live.specs.Live.{looked}
 use Rattle.live.proofs.Live.look.Goals as goal
 
 pub returns : goal.returns
-returns c = lending_all (λ (E : ℕ → Permits). judge_told c.look_with.result ≡ looked E c.args.self) c.kanji_bits-kanji.ensures c.look_with.ensures
+returns c = lending_all (λ (E : ℕ → Permits). judge_told c.look_with.result ≡ looked E c.args.self) c.kanji_table-kanji.ensures c.look_with.ensures

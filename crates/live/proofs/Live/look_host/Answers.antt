@@ -8,4 +8,4 @@ use Rattle.live.specs.HostLooks.{host_looked}
 use Rattle.live.proofs.Live.look_host.Goals as goal
 
 pub returns : goal.returns
-returns c = lending (λ (P : Permits). host_told c.look_host_with.result ≡ host_looked P c.args.self) 4 c.kanji_bits-kanji.ensures c.look_host_with.ensures
+returns c = lending (λ (P : Permits). host_told c.look_host_with.result ≡ host_looked P c.args.self) 4 c.kanji_table-kanji.ensures c.look_host_with.ensures

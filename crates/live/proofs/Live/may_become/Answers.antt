@@ -8,4 +8,4 @@ use Rattle.live.specs.Live.{hoped}
 use Rattle.live.proofs.Live.may_become.Goals as goal
 
 pub returns : goal.returns
-returns c = lending_all (λ (E : ℕ → Permits). c.may_become_with.result ≡ hoped E c.args.self) c.kanji_bits-kanji.ensures c.may_become_with.ensures
+returns c = lending_all (λ (E : ℕ → Permits). c.may_become_with.result ≡ hoped E c.args.self) c.kanji_table-kanji.ensures c.may_become_with.ensures

@@ -9,4 +9,4 @@ pub returns : goal.returns
 returns c =
     let a = c.args in
     let r = c.check_with in
-    lending (λ (P : Permits). Checks P a.text.now a.out.now r.new.out (check_told r.result)) _ c.kanji_bits-kanji.ensures r.ensures
+    lending (λ (P : Permits). Checks P a.text.now a.out.now r.new.out (check_told r.result)) _ c.kanji_table-kanji.ensures r.ensures

@@ -7,4 +7,4 @@ use Rattle.rules.proofs.Editions.{lending}
 use Rattle.names.proofs.judges.judge.Goals as goal
 
 pub returns : goal.returns
-returns c = lending (λ (P : Permits). judge_told c.judge_with.result ≡ judged P c.args.text.now) _ c.kanji_bits-kanji.ensures c.judge_with.ensures
+returns c = lending (λ (P : Permits). judge_told c.judge_with.result ≡ judged P c.args.text.now) _ c.kanji_table-kanji.ensures c.judge_with.ensures

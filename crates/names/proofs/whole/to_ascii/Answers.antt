@@ -9,4 +9,4 @@ pub returns : goal.returns
 returns c =
     let a = c.args in
     let r = c.to_ascii_with in
-    lending (λ (P : Permits). AsciiForms P a.text.now a.out.now r.new.out (ascii_told r.result)) _ c.kanji_bits-kanji.ensures r.ensures
+    lending (λ (P : Permits). AsciiForms P a.text.now a.out.now r.new.out (ascii_told r.result)) _ c.kanji_table-kanji.ensures r.ensures

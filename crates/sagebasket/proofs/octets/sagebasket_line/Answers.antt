@@ -17,4 +17,4 @@ returns c =
     let k : length a.out.now ≡ 256 = search rules in
     let r = c.answer_with in
     rw (c.unwrap_or.ensures, ← line_length r.result)
-    (lending (λ (P : Permits). Puts (answer_to P a.line.now) a.out.now r.new.out 0 (wrote_told r.result).length) 4 c.kanji_bits-kanji.ensures (rw k at r.ensures.text))
+    (lending (λ (P : Permits). Puts (answer_to P a.line.now) a.out.now r.new.out 0 (wrote_told r.result).length) 4 c.kanji_table-kanji.ensures (rw k at r.ensures.text))
