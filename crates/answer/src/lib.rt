@@ -17,7 +17,7 @@ ghost use Rattle.answer.specs.Answers.{Writes, wrote_told, AnswersFirst, next_to
 use crate::usual::usual_line;
 use characters::Edition;
 use lines::{TAB, line_end};
-use refusals::{Refusal, Refused};
+use refusals::Refusal;
 use rules::{Class, Kinds};
 
 const LF: u8 = b'\n';
@@ -106,16 +106,22 @@ fn put_front(id: &[u8], number: usize, place: usize, out: &mut [u8]) -> usize
     put_byte(out, e, TAB)
 }
 
+// The number of a refusal, as wide as a place.
+fn number_of(why: Refusal) -> usize
+    ensures { result ≡ number_of why }
+{
+    usize::from(u8::from(why))
+}
+
 // What follows the place in the answer to a refusal: no class, no form, no kinds.
 const REFUSED: [u8; 6] = [HYPHEN, TAB, HYPHEN, TAB, HYPHEN, LF];
 
 // Puts the answer to a refusal at the start of out.
-fn put_refused(id: &[u8], refused: Refused, out: &mut [u8]) -> usize
+fn put_refused(id: &[u8], number: usize, place: usize, out: &mut [u8]) -> usize
     requires { length id.now + 15 ≤ length out.old }
-    ensures { Puts (refused_answer id.now (number_of refused.why) refused.place) out.old out.new 0 result }
+    ensures { Puts (refused_answer id.now number place) out.old out.new 0 result }
 {
-    let number = usize::from(u8::from(refused.why));
-    let a = put_front(id, number, refused.place, out);
+    let a = put_front(id, number, place, out);
     put(out, a, &REFUSED)
 }
 
@@ -125,7 +131,7 @@ fn put_bad(out: &mut [u8]) -> usize
     requires { 256 ≤ length out.old }
     ensures { Puts bad_answer out.old out.new 0 result }
 {
-    put_refused(&[HYPHEN], Refusal::BadLine.at(0), out)
+    put_refused(&[HYPHEN], number_of(Refusal::BadLine), 0, out)
 }
 
 // Puts a kind's letter where the kind is found.
@@ -185,7 +191,7 @@ pub(crate) fn put_text(kanji: &[u32], id: &[u8], text: &[u32], out: &mut [u8]) -
             let a = put_accepted(id, name.class, out);
             put_end(out, a + name.length, name.kinds)
         }
-        Err(refused) => put_refused(id, refused, out),
+        Err(refused) => put_refused(id, number_of(refused.why), refused.place, out),
     }
 }
 

@@ -6,7 +6,7 @@ ghost use Rattle.std.specs.Prelude.{◌≡◌, min, length, take};
 ghost use Rattle.lists.specs.Tests.{same, elem};
 ghost use Rattle.lists.specs.Front.{written};
 
-// Are the two the same? Entry by entry: the library's `==` of slices is quicker on long ones and several times as large, and the page loads it.
+// Are the two the same? Entry by entry: the library's `==` of slices is more than twice as large, and the page loads it.
 pub fn same(a: &[u32], b: &[u32]) -> bool
     ensures { result ≡ same a.now b.now }
 {

@@ -16,7 +16,7 @@ pub(crate) fn tell_check(
 {
     match names::check(edition, text, form) {
         Ok(name) => tell_name(name.class, NO_KINDS, name.length, name.labels, answer),
-        Err(refused) => tell_refusal(refused, 0, answer),
+        Err(refusal) => tell_refusal(refusal, 0, answer),
     }
 }
 

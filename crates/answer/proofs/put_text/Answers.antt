@@ -31,4 +31,4 @@ pub returns-in-Err : goal.returns-in-Err
 returns-in-Err c =
     let a = c.args in
     let p = c.requires in
-    refused_puts (today_with a.kanji.now) a.id.now a.text.now a.out.now p.0 p.1 c.to_ascii_with.auto.out c.in-Err.ensures (number_not_0 c.in-Err.refused.why) c.put_refused.ensures
+    refused_puts (today_with a.kanji.now) a.id.now a.text.now a.out.now p.0 p.1 c.to_ascii_with.auto.out c.in-Err.ensures (number_not_0 c.in-Err.refused.why) (rw c.number_of.ensures at c.put_refused.ensures)

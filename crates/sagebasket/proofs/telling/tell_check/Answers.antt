@@ -22,7 +22,7 @@ pub tell_refusal-requires : goal.tell_refusal-requires
 tell_refusal-requires c =
     let l : length c.check.new.out ≡ 256 = search rules in
     let s = check_small (edition_of _) c.in-Err.ensures l in
-    (s.place, s.length)
+    (s.place, omega (arith, s.place, s.length))
 
 pub returns-in-Ok : goal.returns-in-Ok
 unfolding of_checked numbers
@@ -30,4 +30,4 @@ returns-in-Ok c = tells (check_told (Ok c.in-Ok.name)) c.in-Ok.ensures c.tell_na
 
 pub returns-in-Err : goal.returns-in-Err
 unfolding of_checked unnamed numbers
-returns-in-Err c = tells (check_told (Err c.in-Err.refused)) c.in-Err.ensures c.tell_refusal.ensures
+returns-in-Err c = tells (check_told (Err c.in-Err.refusal)) c.in-Err.ensures c.tell_refusal.ensures
